@@ -1,0 +1,7 @@
+use native.Mathlib.Omega.{arith}
+use Rattle.book.specs.Reading.{contents}
+use Rattle.book.proofs.Promises.{rows-rise}
+use Rattle.book.proofs.checked.Book.find_row.Needs as need
+
+pub find-requires : need.find-requires
+find-requires c κs = record { wide = (omega arith, omega arith); rising = rows-rise (contents (c .args .self .now)) (c .args .self .now .good) }

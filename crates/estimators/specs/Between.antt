@@ -1,0 +1,24 @@
+-- The straight line stays between its two ends. Assumes nothing.
+use mathlib.Core.Path.{_≡_, sym, ap, _∙_}
+use Prim.Native.Nat.{ℕ, _+_, _-_, _*_, _≤_, _<_}
+use native.Mathlib.Nat.{mul-le-mul-left, mul-assoc, add-mul}
+use native.Mathlib.Omega.{arith}
+use Rattle.units.proofs.Rounding.{nearest-le, nearest-ge}
+use Rattle.estimators.specs.Rows.{on-line}
+
+-- between two columns the answer lies between their fuels
+module _ (c d f g x : ℕ) (up : c < d) (within : x ≤ d) (rise : f ≤ g) where
+  pub on-line-le : on-line c d f g x ≤ 1000 * g
+  on-line-le =
+      let w = d - c in
+      let part = mul-le-mul-left {m = x - c} {n = w} (g - f) (omega arith) in
+      let whole : f + (g - f) ≡ g = omega arith in
+      let sum : f * w + (g - f) * w ≡ g * w = sym (add-mul f (g - f) w) ∙ ap (λ n. n * w) whole in
+      let out = mul-assoc 1000 g w in
+      nearest-le (1000 * (f * w + (g - f) * (x - c))) w (1000 * g) (omega arith) (omega arith)
+
+  pub on-line-ge : 1000 * f ≤ on-line c d f g x
+  on-line-ge =
+      let w = d - c in
+      let out = mul-assoc 1000 f w in
+      nearest-ge (1000 * (f * w + (g - f) * (x - c))) w (1000 * f) (omega arith) (omega arith)

@@ -1,0 +1,4 @@
+// Estimators of one flight's fuel.
+pub mod answers;
+pub mod asking;
+pub mod rows;

@@ -1,0 +1,3 @@
+pub mod Ordered
+pub mod Rounding
+pub mod Searched
