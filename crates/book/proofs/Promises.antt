@@ -163,11 +163,12 @@ placed s d k i found =
     record { within = omega (arith, at .high); key = key; kind = ap kind-of byte ∙ kind-of-number k }
 
 -- the parts of a row that is not wrong
-record Right (distances times : ℕ) (r : List ℕ) : Type 0 where
-  fuels : (j : ℕ) → j < 24 → fuel-wrong r j ≡ false
-  count : count-wrong distances times r ≡ false
-  formed : designator (take 4 r) ≡ true
-  tier : isSome (tier-of (getD r 5 0)) ≡ true
+pub record Right (distances times : ℕ) (r : List ℕ) : Type 0 where
+  pub fuels : (j : ℕ) → j < 24 → fuel-wrong r j ≡ false
+  pub count : count-wrong distances times r ≡ false
+  pub formed : designator (take 4 r) ≡ true
+  pub kind : isSome (kind-of (getD r 4 0)) ≡ true
+  pub tier : isSome (tier-of (getD r 5 0)) ≡ true
 
 right : (distances times : ℕ) (r : List ℕ) → row-wrong distances times r ≡ false → Right distances times r
 right distances times r ok =
@@ -175,19 +176,20 @@ right distances times r ok =
     let zero-byte = or-parts _ (not (eqb (getD r 7 0) 0)) (last .0) in
     let count = or-parts _ (count-wrong distances times r) (zero-byte .0) in
     let tier = or-parts _ (not (isSome (tier-of (getD r 5 0)))) (count .0) in
-    let head = or-parts (not (designator (take 4 r))) _ (tier .0) in
+    let head = or-parts (not (designator (take 4 r))) (not (isSome (kind-of (getD r 4 0)))) (tier .0) in
     record {
       fuels = first-none (fuel-wrong r) 24 (is-none _ (last .1));
       count = count .1;
       formed = not-false _ (head .0);
+      kind = not-false _ (head .1);
       tier = not-false _ (tier .1);
     }
 
 module _ (s : Sections) (ok : sound s ≡ true) (i : ℕ) (within : i < items 104 (s .rows)) where
-  row-right : Right (items 2 (s .distances)) (items 2 (s .times)) (front 104 104 (s .rows) i)
+  pub row-right : Right (items 2 (s .distances)) (items 2 (s .times)) (front 104 104 (s .rows) i)
   row-right = right _ _ _ (or-parts _ _ (sound-good s ok .rows i within) .0)
 
-  count-is : fuel-count-of s i ≡ getD (front 104 104 (s .rows) i) 6 0
+  pub count-is : fuel-count-of s i ≡ getD (front 104 104 (s .rows) i) 6 0
   count-is = cond-true (ltb i (items 104 (s .rows))) _ 0 (lt-ltb i _ within)
 
   fuel-is : (j : ℕ) → j < 24 → fuel-of s i j ≡ fuel (front 104 104 (s .rows) i) j
@@ -206,7 +208,7 @@ module _ (s : Sections) (ok : sound s ≡ true) (i : ℕ) (within : i < items 10
       (λ past. subst (λ x. x ≤ 400000) (sym (fuel-past j past)) (omega arith))
       (cases-lt j 24)
 
-  fuels-of : (k : Kind) → kind-of (getD (front 104 104 (s .rows) i) 4 0) ≡ Some k → Fuels s k i
+  pub fuels-of : (k : Kind) → kind-of (getD (front 104 104 (s .rows) i) 4 0) ≡ Some k → Fuels s k i
   fuels-of k kind =
       let r = front 104 104 (s .rows) i in
       let tells = count-means (getD r 6 0) _ (row-right .count) in

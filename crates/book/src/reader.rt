@@ -4,6 +4,7 @@ ghost use lib.ListN.{length};
 ghost use Rattle.book.specs.Check.{spelled};
 ghost use Rattle.book.specs.Contents.{columns, column-of, row-in, row-of, fuel-count-of, fuel-of, row-place, aerodrome-in, aerodrome-of, aerodrome-place, takes-part};
 ghost use Rattle.book.specs.Parts.{sections};
+ghost use Rattle.book.specs.Promise.{Promises};
 ghost use Rattle.book.specs.Reading.{contents};
 use crate::bytes::find;
 use crate::bytes::front;
@@ -23,7 +24,8 @@ use units::measures::Kind;
 
 // The sections of the book that the bytes spell; of bytes that the check refuses, empty ones.
 fn parts_of(bytes: &[u8]) -> Parts<'_>
-    ensures { λ r. ⌜ sections r ≡ spelled (now (bytes .entry)) ⌝ }
+    ensures is { λ r. ⌜ sections r ≡ spelled (now (bytes .entry)) ⌝ }
+    ensures promises { λ r. ⌜ Promises (sections r) ⌝ }
 {
     match check_book(bytes) {
         Ok(header) => cut(bytes, header),
@@ -68,7 +70,8 @@ fn aerodrome_in(bytes: &[u8]) -> Aerodrome
 impl<'a> Book<'a> {
     // The book that the bytes spell; of bytes that the check refuses, an empty one.
     pub fn of(bytes: &'a [u8]) -> Book<'a>
-        ensures { λ r. ⌜ contents r ≡ spelled (now (bytes .entry)) ⌝ }
+        ensures is { λ r. ⌜ contents r ≡ spelled (now (bytes .entry)) ⌝ }
+        ensures promises { λ r. ⌜ Promises (contents r) ⌝ }
     {
         Book {
             parts: parts_of(bytes),

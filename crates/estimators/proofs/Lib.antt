@@ -1,1 +1,2 @@
+pub mod Climbing
 pub mod Lines

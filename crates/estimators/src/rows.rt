@@ -2,10 +2,12 @@
 ghost use mathlib.Core.Path.{_≡_};
 ghost use Prim.Native.Nat.{_<_, _≤_};
 ghost use Rattle.std.specs.declared.option.Option.the-variants.{Some};
+ghost use Rattle.book.specs.Contents.{row-place};
 ghost use Rattle.book.specs.Reading.{contents};
 ghost use Rattle.estimators.specs.Rows.{on-line, row-answer, rows-meaning};
 ghost use Rattle.estimators.specs.Points.{point-of};
 ghost use Rattle.estimators.specs.BookLaws.{book-laws};
+ghost use Rattle.estimators.specs.Climbs.{Climbs};
 use crate::answers::Answer;
 use crate::asking::Estimator;
 use book::checked::Book;
@@ -59,13 +61,24 @@ fn on_row(book: &Book<'_>, row: usize, measure: Measure) -> Answer
     Answer::Beyond
 }
 
+// The place of the row of a type and kind, whose estimate climbs with the amount.
+fn place_of(book: &Book<'_>, designator: Designator, kind: Kind) -> Option<usize>
+    ensures is { λ r. ⌜ r ≡ row-place (contents (now (book .entry))) designator kind ⌝ }
+    ensures climbs { λ _. ⌜ Climbs (contents (now (book .entry))) designator kind ⌝ }
+{
+    book.find_row(designator, kind)
+}
+
 pub impl Estimator for Book<'_> as BookRows {
     ghost meaning = { λ b. rows-meaning (contents b) };
 
     ghost laws = { book-laws };
 
-    fn ask(&self, designator: Designator, measure: Measure) -> Answer {
-        match self.find_row(designator, measure.kind) {
+    fn ask(&self, designator: Designator, measure: Measure) -> Answer
+        ensures meant { λ r. ⌜ r ≡ rows-meaning (contents (now (self .entry))) designator measure ⌝ }
+        ensures climbs { λ _. ⌜ Climbs (contents (now (self .entry))) designator (measure .kind) ⌝ }
+    {
+        match place_of(self, designator, measure.kind) {
             Some(row) => on_row(self, row, measure),
             None => Answer::NotKnown,
         }

@@ -1,7 +1,7 @@
 -- What rounding to the nearest gives. Assumes nothing.
 use mathlib.Core.Path.{_≡_, refl, sym, ap, subst, _∙_}
 use Prim.Native.Nat.{ℕ, _+_, _-_, _*_, _/_, _≤_, _<_}
-use native.Mathlib.Nat.{div-zero, one-mul, add-mul, mul-left-comm, le-mul-of-pos-right}
+use native.Mathlib.Nat.{div-zero, one-mul, add-mul, mul-left-comm, le-mul-of-pos-right, div-mul-le-self}
 use native.Mathlib.Omega.{arith}
 use mir.Syntax.{Width}
 use mir.Val.{Fits}
@@ -24,6 +24,12 @@ pub nearest-ge : (n d b : ℕ) → 0 < d → b * d ≤ n → b ≤ nearest n d
 nearest-ge n d b pos le =
     let wide = mul-left-comm b 2 d in
     le-div b (2 * n + d) (2 * d) (omega arith) (omega arith)
+
+-- rounding keeps the order
+pub nearest-mono : (n m d : ℕ) → 0 < d → n ≤ m → nearest n d ≤ nearest m d
+nearest-mono n m d pos le =
+    let whole = div-mul-le-self (2 * n + d) (2 * d) in
+    le-div (nearest n d) (2 * m + d) (2 * d) (omega arith) (omega arith)
 
 -- a numerator up to 2 n + d, over 2 d, fits where n does
 pub quotient-fits : (w : Width) (x n d : ℕ) → Fits w n → 0 < d → x ≤ 2 * n + d → Fits w (x / (2 * d))
