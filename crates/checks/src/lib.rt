@@ -6,4 +6,6 @@ mod estimates;
 #[cfg(test)]
 mod example;
 #[cfg(test)]
+mod layered;
+#[cfg(test)]
 mod words;

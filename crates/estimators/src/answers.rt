@@ -1,6 +1,6 @@
 // What an estimator answers.
 ghost use mathlib.Core.Path.{_≡_};
-ghost use Rattle.estimators.specs.Answers.{outcome as outcome-of};
+ghost use Rattle.estimators.specs.Answers.{known, outcome as outcome-of};
 use units::refusals::Refusal;
 
 #[derive(Clone, Copy)]
@@ -14,6 +14,17 @@ pub enum Answer {
 }
 
 impl Answer {
+    // Whether the estimator knows the type.
+    pub fn is_known(self) -> bool
+        ensures { λ r. ⌜ r ≡ known self ⌝ }
+    {
+        match self {
+            Answer::Fuel(_) => true,
+            Answer::NotKnown => false,
+            Answer::Beyond => true,
+        }
+    }
+
     // The fuel in grams, or the refusal that the answer stands for.
     pub fn outcome(self) -> Result<u64, Refusal>
         ensures { λ r. ⌜ r ≡ outcome-of self ⌝ }

@@ -14,7 +14,8 @@ pub struct AerodromeCode {
     pub bytes: [u8; 4],
 }
 
-fn is_character(b: u8) -> bool
+// 0 to 9 or A to Z.
+pub fn is_character(b: u8) -> bool
     ensures { λ r. ⌜ r ≡ character b ⌝ }
 {
     matches!(b, b'0'..=b'9' | b'A'..=b'Z')

@@ -1,0 +1,10 @@
+pub mod BookLaws
+pub mod Custom
+pub mod CustomLaws
+pub mod Customised
+pub mod Fitting
+pub mod Laws
+pub mod Listed
+pub mod Prefix
+pub mod PrefixLaws
+pub mod Prefixed

@@ -1,0 +1,5 @@
+// Estimators in layers: equivalents and the generic equation, each over any estimator.
+pub mod category;
+pub mod customs;
+pub mod equivalents;
+pub mod items;
