@@ -2,6 +2,8 @@
 #[cfg(test)]
 mod books;
 #[cfg(test)]
+mod directories;
+#[cfg(test)]
 mod estimates;
 #[cfg(test)]
 mod example;

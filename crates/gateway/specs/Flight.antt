@@ -10,6 +10,7 @@ use Rattle.std.specs.declared.result.Result.the-variants.{Ok, Err}
 use Rattle.units.specs.Alphabet.{designator}
 use Rattle.units.specs.Fault.{fault}
 use Rattle.units.specs.Measuring.{kind-of, in-range}
+use Rattle.units.specs.Steps.{then}
 use Rattle.units.specs.declared.codes.Designator.{Designator}
 use Rattle.units.specs.declared.measures.Kind.{Kind}
 use Rattle.units.specs.declared.measures.Measure.{Measure}
@@ -20,11 +21,6 @@ use Rattle.book.specs.Contents.{four}
 use Rattle.estimators.specs.Answers.{outcome}
 use Rattle.estimators.specs.Laws.{of}
 use Rattle.estimators.specs.Rows.{rows-meaning}
-
--- one step, and where it is not refused the next
-abbrev pub then : {A B : Type 0} → Result A Refusal → (A → Result B Refusal) → Result B Refusal
-then (Ok x) next = next x
-then (Err refusal) next = Err refusal
 
 -- four bytes that are a designator; else field 3 is out of range
 abbrev pub flight-type : List ℕ → Result Designator Refusal

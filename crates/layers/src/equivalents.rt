@@ -2,7 +2,7 @@
 ghost use mathlib.Core.Path.{_≡_};
 ghost use mathlib.Core.Bool.{true};
 ghost use mathlib.Core.List.{[]};
-ghost use Rattle.estimators.specs.Answers.{within-limit};
+ghost use Rattle.estimators.specs.Answers.{known, within-limit};
 ghost use Rattle.lists.specs.Entries.{entries};
 ghost use Rattle.lists.specs.Listing.{after-adding};
 ghost use Rattle.layers.specs.Items.{equivalent-added};
@@ -61,7 +61,10 @@ pub impl<E: Estimator> Estimator for Equivalents<E> as EquivalentsEstimator {
 
     ghost laws = { equivalents-laws (E·Estimator .meaning) (E·Estimator .laws) (λ s. s .below) (λ s. entries (s .list)) };
 
-    fn ask(&self, designator: Designator, measure: Measure) -> Answer {
+    fn ask(&self, designator: Designator, measure: Measure) -> Answer
+        ensures meant { λ r. ⌜ r ≡ equivalents (entries (now (self .entry) .list)) (E·Estimator .meaning (now (self .entry) .below)) designator measure ⌝ }
+        ensures known_below { λ r. ⌜ (known (E·Estimator .meaning (now (self .entry) .below) designator measure) ≡ true → r ≡ E·Estimator .meaning (now (self .entry) .below) designator measure) ⌝ }
+    {
         let own = ask_below(&self.below, designator, measure);
         if own.is_known() {
             return own;

@@ -4,3 +4,4 @@ pub mod Fault
 pub mod Measuring
 pub mod Order
 pub mod Places
+pub mod Steps
