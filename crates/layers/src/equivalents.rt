@@ -14,6 +14,7 @@ use crate::items::EquivalentItem;
 use estimators::answers::Answer;
 use estimators::asking::Estimator;
 use lists::short::ShortList;
+use units::amounts::FUEL_LIMIT;
 use units::amounts::nearest;
 use units::codes::Designator;
 use units::measures::Measure;
@@ -29,7 +30,7 @@ pub struct Equivalents<E> {
 pub(crate) fn capped(grams: u64) -> Answer
     ensures { λ r. ⌜ r ≡ at-most grams ⌝ }
 {
-    if grams <= 400_000_000 {
+    if grams <= FUEL_LIMIT {
         Answer::Fuel(grams)
     } else {
         Answer::Beyond
