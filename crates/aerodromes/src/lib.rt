@@ -1,4 +1,6 @@
 // Directories: the State of an aerodrome, from the book, from prefixes, and from custom aerodromes over any of them.
+#![tactic(auto)]
+
 pub mod custom;
 pub mod custom_list;
 pub mod customs;

@@ -1,4 +1,6 @@
 // Worked examples, in a crate of their own so that no library is proved twice.
+#![tactic(auto)]
+
 #[cfg(test)]
 mod books;
 #[cfg(test)]

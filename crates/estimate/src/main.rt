@@ -1,4 +1,6 @@
 // Answers questions about fuel estimates and aerodromes: one printed line for each line of questions.csv.
+#![tactic(auto)]
+
 mod desk;
 mod fields;
 

@@ -1,4 +1,6 @@
 // The worked figures, proved of the definitions that the contracts use.
+#![tactic(auto)]
+
 ghost use Rattle.std.specs.Prelude.{◌≡◌};
 ghost use Rattle.figures.specs.Figures.{Figures};
 ghost use Rattle.figures.specs.VerdictFigures.{VerdictFigures};

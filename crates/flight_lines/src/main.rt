@@ -1,4 +1,6 @@
 // Reads a data book and flight lines, and names each line that is refused for its form or its ranges.
+#![tactic(auto)]
+
 use book::checks::check_book;
 use lines::orders::Order;
 use lines::reading::read_line;

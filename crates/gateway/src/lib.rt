@@ -1,4 +1,6 @@
 // One flight's fuel for callers in C.
+#![tactic(auto)]
+
 ghost use Rattle.std.specs.Prelude.{◌≡◌, ◌≤◌, IfOk};
 ghost use Rattle.book.specs.Check.{spelled};
 ghost use Rattle.estimators.specs.Answers.{outcome};

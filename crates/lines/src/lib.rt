@@ -1,4 +1,6 @@
 // Flight lines: cut at the commas, read field by field, refused by name.
+#![tactic(auto)]
+
 mod cuts;
 mod forms;
 pub mod orders;

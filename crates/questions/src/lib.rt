@@ -1,4 +1,6 @@
 // Questions to any estimator and any directory: what was given is looked at first.
+#![tactic(auto)]
+
 ghost use Rattle.std.specs.Prelude.{◌≡◌};
 ghost use Rattle.questions.specs.Questions.{asked_type, asked_measure, asked_code, state_found, fuel_asked, state_asked};
 

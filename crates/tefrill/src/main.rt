@@ -1,4 +1,6 @@
 // Reads a data book and estimates the fuel and the CO2 of one flight by it.
+#![tactic(auto)]
+
 use book::checked::Book;
 use book::checks::check_book;
 use book::format::Header;

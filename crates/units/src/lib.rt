@@ -1,4 +1,6 @@
 // The words that every layer shares: codes, measures, amounts, entries and refusals.
+#![tactic(auto)]
+
 pub mod amounts;
 pub mod codes;
 pub mod entries;

@@ -1,4 +1,6 @@
 // The worked-out entry: its States, its fuel and CO2, its marks.
+#![tactic(auto)]
+
 ghost use Rattle.std.specs.Prelude.{◌≡◌, ◌*◌, ◌≤◌, true};
 ghost use Rattle.estimators.specs.Answers.{within_limit};
 ghost use Rattle.working.specs.Working.{taken, Few, Small, fuel_of, is_far, held_against, marks_of, worked_out};

@@ -1,4 +1,6 @@
 // Flight lines written from orders, into a caller's buffer.
+#![tactic(auto)]
+
 mod drafts;
 mod numerals;
 mod words;

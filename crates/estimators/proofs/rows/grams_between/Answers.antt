@@ -6,8 +6,8 @@ use Rattle.estimators.proofs.rows.grams_between.Goals as goal
 products : (f w r a : ℕ) → f ≤ 4294967295 → w ≤ 65535 → r ≤ 4294967295 → a ≤ 65535 → f * w + r * a ≤ 2 * (4294967295 * 65535)
 products f w r a hf hw hr ha = omega (arith, mul-le f w 4294967295 65535 hf hw, mul-le r a 4294967295 65535 hr ha)
 
-pub overflow-add-from : goal.overflow-add-from
-overflow-add-from c =
+pub overflow_add-from : goal.overflow_add-from
+overflow_add-from c =
     let width = c.saturating-sub-width.ensures in
     let along = c.saturating-sub-along.ensures in
     let rise = c.saturating-sub-rise.ensures in
@@ -15,8 +15,8 @@ overflow-add-from c =
     (omega arith) (omega arith) (omega arith) (omega arith) in
     record { fits = omega arith }
 
-pub overflow-mul-from-2 : goal.overflow-mul-from-2
-overflow-mul-from-2 c =
+pub overflow_mul-from-2 : goal.overflow_mul-from-2
+overflow_mul-from-2 c =
     let width = c.saturating-sub-width.ensures in
     let along = c.saturating-sub-along.ensures in
     let rise = c.saturating-sub-rise.ensures in

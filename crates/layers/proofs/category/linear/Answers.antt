@@ -2,11 +2,11 @@ use Rattle.std.proofs.Common.{◌+◌, ◌*◌, ◌^◌, ◌<◌, ◌≤◌, nat
 use Rattle.layers.proofs.Signs.{product_fits, sum_fits, sum_is, sum_small}
 use Rattle.layers.proofs.category.linear.Goals as goal
 
-pub overflow-mul-result : goal.overflow-mul-result
-overflow-mul-result c = product_fits c.args.a c.args.b c.args.x c.ranges.a c.ranges.b c.requires.0 c.requires.1 c.ranges.x.fits
+pub overflow_mul-result : goal.overflow_mul-result
+overflow_mul-result c = product_fits c.args.a c.args.b c.args.x c.ranges.a c.ranges.b c.requires.0 c.requires.1 c.ranges.x.fits
 
-pub overflow-add-result : goal.overflow-add-result
-overflow-add-result c = sum_fits c.args.a c.args.b c.args.x c.ranges.a c.ranges.b c.requires.0 c.requires.1 c.ranges.x.fits
+pub overflow_add-result : goal.overflow_add-result
+overflow_add-result c = sum_fits c.args.a c.args.b c.args.x c.ranges.a c.ranges.b c.requires.0 c.requires.1 c.ranges.x.fits
 
 pub returns : goal.returns
 returns c =

@@ -7,5 +7,5 @@ pub returns-then-d-eq0 : goal.returns-then-d-eq0
 returns-then-d-eq0 c = sym (ap (nearest c.args.n) c.if-d-eq0.true ∙ nearest_zero c.args.n)
 
 -- the quotient is no greater than n, since d is at least 1
-pub overflow-cast-result-2 : goal.overflow-cast-result-2
-overflow-cast-result-2 c = quotient_fits _ _ c.args.n c.args.d c.ranges.n (omega arith) (omega arith)
+pub overflow_cast-result-2 : goal.overflow_cast-result-2
+overflow_cast-result-2 c = quotient_fits _ _ c.args.n c.args.d c.ranges.n (omega arith) (omega arith)

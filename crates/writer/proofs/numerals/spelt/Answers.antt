@@ -5,8 +5,8 @@ use Rattle.writer.proofs.numerals.spelt.Goals as goal
 pub loop-rest-init : goal.loop-rest-init
 loop-rest-init c = halfway_none c.args.number _ (omega arith) refl
 
-pub overflow-sub-from : goal.overflow-sub-from
-overflow-sub-from c = halfway_room c.args.number c.loop-rest.rest c.loop-rest.from c.loop-rest.bytes (omega arith) c.loop-rest.invariant
+pub overflow_sub-from : goal.overflow_sub-from
+overflow_sub-from c = halfway_room c.args.number c.loop-rest.rest c.loop-rest.from c.loop-rest.bytes (omega arith) c.loop-rest.invariant
 
 pub loop-rest-preserved : goal.loop-rest-preserved
 loop-rest-preserved c = halfway_more c.args.number c.loop-rest.rest c.loop-rest.from c.loop-rest.bytes (omega arith) c.loop-rest.invariant
