@@ -1,7 +1,7 @@
 -- What a comparison tells, and how lists of digits compare part by part. Assumes nothing.
 use Rattle.std.proofs.Common.{◌≡◌, ℕ, suc, ◌<◌, Bool, true, false, cond, ◌&&◌, eqb, ltb, List, [], ◌∷◌, ◌++◌, length, Ordering, Less, Equal, Greater, sym, refl, ap, ◌∙◌, ⊎_elim, arith}
 use Rattle.std.specs.Ordering.{MatchOrdering, is_lt, is_eq, ordering_then, nat_cmp}
-use Rattle.std.specs.Cmp.Lexicographic.{Lex}
+use Rattle.std.specs.Cmp.Lexicographic.{slice_cmp}
 use Rattle.std.proofs.lemmas.Bool.{cond-true, cond-false, cond_both, cases_Bool, both_ways}
 use Rattle.std.proofs.lemmas.Cmp.{same_from_slice_cmp}
 use Rattle.std.proofs.lemmas.Bool.Decides.{nat_tests}
@@ -16,9 +16,9 @@ by_tests Equal p q e f = ap (λ b. cond b Equal Greater) f ∙ ap (λ b. cond b 
 by_tests Greater p q e f = ap (λ b. cond b Equal Greater) f ∙ ap (λ b. cond b Less (cond q Equal Greater)) e
 
 -- what `cmp` answers of two lists of numbers
-pub compared_from_lex : (xs ys : List ℕ) (o : Ordering) → Lex (λ a b k. MatchOrdering k (a < b) (a ≡ b) (b < a)) xs ys o → o ≡ compared xs ys
+pub compared_from_cmp : (xs ys : List ℕ) (o : Ordering) → o ≡ slice_cmp nat_cmp xs ys → o ≡ compared xs ys
 unfolding compared earlier same
-compared_from_lex xs ys o h =
+compared_from_cmp xs ys o h =
     by_tests o (earlier xs ys) (same xs ys)
     (same_from_slice_cmp nat_cmp is_lt earlier refl (λ _ _. refl) (λ _ _. refl) (λ x y xs ys o h. grind (arith, nat_tests)) xs ys o h)
     (same_from_slice_cmp nat_cmp is_eq same refl (λ _ _. refl) (λ _ _. refl) (λ x y xs ys o h. grind (arith, nat_tests)) xs ys o h)

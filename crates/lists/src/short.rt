@@ -21,7 +21,7 @@ fn are_same(a: [u8; 4], b: [u8; 4]) -> bool
 
 // The first item of that name.
 fn named<T: Item>(items: &[T], name: [u8; 4]) -> Option<T>
-    ensures { result ≡ listed naming name items.now }
+    ensures { result ≡ listed T.naming name items.now }
 {
     for item in items {
         if are_same(item.name(), name) {
@@ -69,7 +69,7 @@ impl<T: Item, const N: usize> ShortList<T, N> {
 
     // The item of that name.
     pub fn find(&self, name: [u8; 4]) -> Option<T>
-        ensures { result ≡ listed naming name (entries self.now) }
+        ensures { result ≡ listed T.naming name (entries self.now) }
     {
         let items = &self.items[..];
         let end = self.count.min(N);
@@ -96,7 +96,7 @@ impl<T: Item, const N: usize> ShortList<T, N> {
 
     // Adds an item at the end. Refused, the list stays as it is.
     pub fn add(&mut self, item: T) -> Result<(), Refusal>
-        ensures answer { result ≡ added owner (nat_le N (length (entries self.old))) (formed item) (is_some (listed naming (naming item) (entries self.old))) (fitting item) }
+        ensures answer { result ≡ added T.owner (nat_le N (length (entries self.old))) (T.formed item) (is_some (listed T.naming (T.naming item) (entries self.old))) (T.fitting item) }
         ensures after { entries self.new ≡ after_adding result (entries self.old) item }
     {
         let full = self.is_full();

@@ -5,5 +5,5 @@ use Rattle.working.proofs.in_range.Goals as goal
 pub returns : goal.returns
 returns c = record {
   is = search rules;
-  few = few_flights c.args.entry c.in-ok-check.field-0 (sym c.check.ensures ∙ c.in-ok-check.was);
+  few = few_flights c.args.entry c.in_ok-check.field-0 (sym c.check.ensures ∙ c.in_ok-check.was);
 }

@@ -7,23 +7,23 @@ pub front-at-requires : goal.front-at-requires
 front-at-requires c =
     item_within c.args.width (length c.args.key.now) c.args.bytes.now _ c.requires.wide.1 (omega (arith, c.loop-span.invariant.within))
 
-pub loop-span-preserved-then-is-before : goal.loop-span-preserved-then-is-before
-loop-span-preserved-then-is-before c =
+pub loop-span-preserved-then-is_before : goal.loop-span-preserved-then-is_before
+loop-span-preserved-then-is_before c =
     narrowed_at _ _ _ _ _ _ _ c.above-span.ensures.0 c.above-span.ensures.1
     (narrowed_up c.args.width c.args.key.now c.args.bytes.now c.requires.rising _ _ _ (omega arith)
-    (sym (c.if-is-before.ensures ∙ ap (λ l. earlier l c.args.key.now) c.front-at.ensures.is)) c.loop-span.invariant)
+    (sym (c.if-is_before.ensures ∙ ap (λ l. earlier l c.args.key.now) c.front-at.ensures.is)) c.loop-span.invariant)
 
 pub loop-span-preserved : goal.loop-span-preserved
 loop-span-preserved c =
     narrowed_at _ _ _ _ _ _ _ c.below-span.ensures.0 c.below-span.ensures.1
     (narrowed_down c.args.width c.args.key.now c.args.bytes.now c.requires.rising _ _ _ (omega arith)
-    (sym (c.if-is-before-2.ensures ∙ ap (earlier c.args.key.now) c.front-at.ensures.is)) c.loop-span.invariant)
+    (sym (c.if-is_before-2.ensures ∙ ap (earlier c.args.key.now) c.front-at.ensures.is)) c.loop-span.invariant)
 
-pub returns-else-is-before-2 : goal.returns-else-is-before-2
-returns-else-is-before-2 c =
+pub returns-else-is_before-2 : goal.returns-else-is_before-2
+returns-else-is_before-2 c =
     sym (narrowed_found c.args.width c.args.key.now c.args.bytes.now c.requires.rising _ _ _ (omega arith)
-    (sym (c.if-is-before.ensures ∙ ap (λ l. earlier l c.args.key.now) c.front-at.ensures.is))
-    (sym (c.if-is-before-2.ensures ∙ ap (earlier c.args.key.now) c.front-at.ensures.is)) c.loop-span.invariant)
+    (sym (c.if-is_before.ensures ∙ ap (λ l. earlier l c.args.key.now) c.front-at.ensures.is))
+    (sym (c.if-is_before-2.ensures ∙ ap (earlier c.args.key.now) c.front-at.ensures.is)) c.loop-span.invariant)
 
 pub returns : goal.returns
 returns c =

@@ -11,13 +11,13 @@ loop-i-init c = passed_none _ _
 pub loop-i-preserved : goal.loop-i-preserved
 loop-i-preserved c =
     passed_more (aerodrome_bad c.args.aerodromes.now) _ _
-    c.loop-i-test.true c.loop-i.invariant (sym c.if-aerodrome-is-bad.ensures)
+    c.loop-i-test.true c.loop-i.invariant (sym c.if-aerodrome_is_bad.ensures)
 
-pub returns-then-aerodrome-is-bad : goal.returns-then-aerodrome-is-bad
+pub returns-then-aerodrome_is_bad : goal.returns-then-aerodrome_is_bad
 unfolding aerodromes_checked
-returns-then-aerodrome-is-bad c =
+returns-then-aerodrome_is_bad c =
     refused BookAerodrome (aerodrome_bad c.args.aerodromes.now) _ _
-    c.loop-i-test.true c.loop-i.invariant (sym c.if-aerodrome-is-bad.ensures)
+    c.loop-i-test.true c.loop-i.invariant (sym c.if-aerodrome_is_bad.ensures)
 
 pub returns : goal.returns
 unfolding aerodromes_checked

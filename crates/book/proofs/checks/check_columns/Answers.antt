@@ -12,13 +12,13 @@ loop-i-init c = passed_none _ _
 pub loop-i-preserved : goal.loop-i-preserved
 loop-i-preserved c =
     passed_more (column_wrong c.args.limit c.args.columns.now) _ _
-    c.loop-i-test.true c.loop-i.invariant (sym c.if-column-is-wrong.ensures)
+    c.loop-i-test.true c.loop-i.invariant (sym c.if-column_is_wrong.ensures)
 
-pub returns-then-column-is-wrong : goal.returns-then-column-is-wrong
+pub returns-then-column_is_wrong : goal.returns-then-column_is_wrong
 unfolding columns_checked
-returns-then-column-is-wrong c =
+returns-then-column_is_wrong c =
     refused BookColumn (column_wrong c.args.limit c.args.columns.now) _ _
-    c.loop-i-test.true c.loop-i.invariant (sym c.if-column-is-wrong.ensures)
+    c.loop-i-test.true c.loop-i.invariant (sym c.if-column_is_wrong.ensures)
 
 pub returns : goal.returns
 unfolding columns_checked

@@ -11,13 +11,13 @@ loop-i-init c = passed_none _ _
 pub loop-i-preserved : goal.loop-i-preserved
 loop-i-preserved c =
     passed_more (row_bad c.args.distances c.args.times c.args.rows.now) _ _
-    c.loop-i-test.true c.loop-i.invariant (sym c.if-row-is-bad.ensures)
+    c.loop-i-test.true c.loop-i.invariant (sym c.if-row_is_bad.ensures)
 
-pub returns-then-row-is-bad : goal.returns-then-row-is-bad
+pub returns-then-row_is_bad : goal.returns-then-row_is_bad
 unfolding rows_checked
-returns-then-row-is-bad c =
+returns-then-row_is_bad c =
     refused BookRow (row_bad c.args.distances c.args.times c.args.rows.now) _ _
-    c.loop-i-test.true c.loop-i.invariant (sym c.if-row-is-bad.ensures)
+    c.loop-i-test.true c.loop-i.invariant (sym c.if-row_is_bad.ensures)
 
 pub returns : goal.returns
 unfolding rows_checked

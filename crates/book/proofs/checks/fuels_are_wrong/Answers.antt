@@ -9,12 +9,12 @@ loop-j-init c = passed_none _ _
 pub loop-j-preserved : goal.loop-j-preserved
 loop-j-preserved c =
     passed_more (fuel_wrong c.args.row.now) _ _
-    c.loop-j-test.true c.loop-j.invariant (sym c.if-fuel-is-wrong.ensures)
+    c.loop-j-test.true c.loop-j.invariant (sym c.if-fuel_is_wrong.ensures)
 
-pub returns-then-fuel-is-wrong : goal.returns-then-fuel-is-wrong
-returns-then-fuel-is-wrong c =
+pub returns-then-fuel_is_wrong : goal.returns-then-fuel_is_wrong
+returns-then-fuel_is_wrong c =
     sym (ap is_some (passed_hit (fuel_wrong c.args.row.now) _ _
-    c.loop-j-test.true c.loop-j.invariant (sym c.if-fuel-is-wrong.ensures)))
+    c.loop-j-test.true c.loop-j.invariant (sym c.if-fuel_is_wrong.ensures)))
 
 pub returns : goal.returns
 returns c = sym (ap is_some (passed_all (fuel_wrong c.args.row.now) _ _ c.loop-j-test.false c.loop-j.invariant))

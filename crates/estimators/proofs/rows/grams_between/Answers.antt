@@ -8,18 +8,18 @@ products f w r a hf hw hr ha = omega (arith, mul-le f w 4294967295 65535 hf hw, 
 
 pub overflow_add-from : goal.overflow_add-from
 overflow_add-from c =
-    let width = c.saturating-sub-width.ensures in
-    let along = c.saturating-sub-along.ensures in
-    let rise = c.saturating-sub-rise.ensures in
-    let small = products c.args.from.fuel c.saturating-sub-width.result c.saturating-sub-rise.result c.saturating-sub-along.result
+    let width = c.saturating_sub-width.ensures in
+    let along = c.saturating_sub-along.ensures in
+    let rise = c.saturating_sub-rise.ensures in
+    let small = products c.args.from.fuel c.saturating_sub-width.result c.saturating_sub-rise.result c.saturating_sub-along.result
     (omega arith) (omega arith) (omega arith) (omega arith) in
     record { fits = omega arith }
 
 pub overflow_mul-from-2 : goal.overflow_mul-from-2
 overflow_mul-from-2 c =
-    let width = c.saturating-sub-width.ensures in
-    let along = c.saturating-sub-along.ensures in
-    let rise = c.saturating-sub-rise.ensures in
-    let small = products c.args.from.fuel c.saturating-sub-width.result c.saturating-sub-rise.result c.saturating-sub-along.result
+    let width = c.saturating_sub-width.ensures in
+    let along = c.saturating_sub-along.ensures in
+    let rise = c.saturating_sub-rise.ensures in
+    let small = products c.args.from.fuel c.saturating_sub-width.result c.saturating_sub-rise.result c.saturating_sub-along.result
     (omega arith) (omega arith) (omega arith) (omega arith) in
     record { fits = omega arith }

@@ -12,29 +12,29 @@ back z fits = to_z-of_z w128 z (record { sfits = fits })
 
 pub linear-requires-3 : goal.linear-requires-3
 linear-requires-3 c =
-    let a = back c.wide-coefficient-a.result c.wide-coefficient-a.type-inv in
-    let b = back c.wide-coefficient-b.result c.wide-coefficient-b.type-inv in
-    let p = back c.wide-coefficient-c.result c.wide-coefficient-c.type-inv in
-    let q = back c.wide-coefficient-d.result c.wide-coefficient-d.type-inv in
+    let a = back c.wide_coefficient-a.result c.wide_coefficient-a.type_inv in
+    let b = back c.wide_coefficient-b.result c.wide_coefficient-b.type_inv in
+    let p = back c.wide_coefficient-c.result c.wide_coefficient-c.type_inv in
+    let q = back c.wide_coefficient-d.result c.wide_coefficient-d.type_inv in
     let first = line_small _ _ (nat_abs c.linear.result) c.args.mass
-    (subst (λ z. nat_abs z ≤ 50000000000000) (sym a) c.wide-coefficient-a.ensures.small)
-    (subst (λ z. nat_abs z ≤ 50000000000000) (sym b) c.wide-coefficient-b.ensures.small)
+    (subst (λ z. nat_abs z ≤ 50000000000000) (sym a) c.wide_coefficient-a.ensures.small)
+    (subst (λ z. nat_abs z ≤ 50000000000000) (sym b) c.wide_coefficient-b.ensures.small)
     c.ranges.mass.fits c.linear.ensures.small in
     let second = line_small _ _ (nat_abs c.linear-2.result) c.args.mass
-    (subst (λ z. nat_abs z ≤ 50000000000000) (sym p) c.wide-coefficient-c.ensures.small)
-    (subst (λ z. nat_abs z ≤ 50000000000000) (sym q) c.wide-coefficient-d.ensures.small)
+    (subst (λ z. nat_abs z ≤ 50000000000000) (sym p) c.wide_coefficient-c.ensures.small)
+    (subst (λ z. nat_abs z ≤ 50000000000000) (sym q) c.wide_coefficient-d.ensures.small)
     c.ranges.mass.fits c.linear-2.ensures.small in (
-      subst (λ z. nat_abs z < 2 ^ 80) (sym (back c.linear.result c.linear.type-inv)) first,
-      subst (λ z. nat_abs z < 2 ^ 80) (sym (back c.linear-2.result c.linear-2.type-inv)) second,
+      subst (λ z. nat_abs z < 2 ^ 80) (sym (back c.linear.result c.linear.type_inv)) first,
+      subst (λ z. nat_abs z < 2 ^ 80) (sym (back c.linear-2.result c.linear-2.type_inv)) second,
     )
 
 pub returns : goal.returns
 unfolding value
 returns c =
-    let a = back c.wide-coefficient-a.result c.wide-coefficient-a.type-inv ∙ c.wide-coefficient-a.ensures.is in
-    let b = back c.wide-coefficient-b.result c.wide-coefficient-b.type-inv ∙ c.wide-coefficient-b.ensures.is in
-    let p = back c.wide-coefficient-c.result c.wide-coefficient-c.type-inv ∙ c.wide-coefficient-c.ensures.is in
-    let q = back c.wide-coefficient-d.result c.wide-coefficient-d.type-inv ∙ c.wide-coefficient-d.ensures.is in
-    let first = back c.linear.result c.linear.type-inv ∙ c.linear.ensures.is ∙ (λ i. linear (a i) (b i) c.args.mass) in
-    let second = back c.linear-2.result c.linear-2.type-inv ∙ c.linear-2.ensures.is ∙ (λ i. linear (p i) (q i) c.args.mass) in
-    back c.linear-3.result c.linear-3.type-inv ∙ c.linear-3.ensures.is ∙ (λ i. linear (first i) (second i) c.args.amount)
+    let a = back c.wide_coefficient-a.result c.wide_coefficient-a.type_inv ∙ c.wide_coefficient-a.ensures.is in
+    let b = back c.wide_coefficient-b.result c.wide_coefficient-b.type_inv ∙ c.wide_coefficient-b.ensures.is in
+    let p = back c.wide_coefficient-c.result c.wide_coefficient-c.type_inv ∙ c.wide_coefficient-c.ensures.is in
+    let q = back c.wide_coefficient-d.result c.wide_coefficient-d.type_inv ∙ c.wide_coefficient-d.ensures.is in
+    let first = back c.linear.result c.linear.type_inv ∙ c.linear.ensures.is ∙ (λ i. linear (a i) (b i) c.args.mass) in
+    let second = back c.linear-2.result c.linear-2.type_inv ∙ c.linear-2.ensures.is ∙ (λ i. linear (p i) (q i) c.args.mass) in
+    back c.linear-3.result c.linear-3.type_inv ∙ c.linear-3.ensures.is ∙ (λ i. linear (first i) (second i) c.args.amount)

@@ -3,9 +3,9 @@ use Rattle.lines.specs.Forms.{plain}
 use Rattle.lines.proofs.Numbers.{number_else, number_parsed}
 use Rattle.lines.proofs.forms.numbered.Goals as goal
 
-pub returns-then-is-plain : goal.returns-then-is-plain
-returns-then-is-plain c =
-    c.ok.ensures.value ∙ number_parsed c.args.text.now _ (ap plain (sym c.as-bytes.ensures.value) ∙ sym c.if-is-plain.ensures) c.parse.ensures.value.0
+pub returns-then-is_plain : goal.returns-then-is_plain
+returns-then-is_plain c =
+    c.ok.ensures.value ∙ number_parsed c.args.text.now _ (ap plain (sym c.as_bytes.ensures.value) ∙ sym c.if-is_plain.ensures) c.parse.ensures.value.0
 
-pub returns-else-is-plain : goal.returns-else-is-plain
-returns-else-is-plain c = sym (number_else c.args.text.now (ap plain (sym c.as-bytes.ensures.value) ∙ sym c.if-is-plain.ensures))
+pub returns-else-is_plain : goal.returns-else-is_plain
+returns-else-is_plain c = sym (number_else c.args.text.now (ap plain (sym c.as_bytes.ensures.value) ∙ sym c.if-is_plain.ensures))

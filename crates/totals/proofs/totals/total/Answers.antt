@@ -16,4 +16,4 @@ loop-i-preserved c =
     let inside : c.loop-i.i < length c.args.rows.now = omega arith in
     let row : Row StatePair = get_or c.args.rows.now c.loop-i.i (record { key = record { departure = 0; arrival = 0 }; amounts = record { flights = 0; fuel = 0; co2 = 0 } }) in
     let more = summed_more c.args.year c.args.marks.now c.args.rows.now c.loop-i.i c.loop-i.totals row inside (get_or_default c.args.rows.now c.loop-i.i _ _ inside) c.with-totals.ensures.small c.loop-i.invariant in
-    subst S (sym (c.with-totals.ensures.is ∙ ap (λ k. counted c.loop-i.totals k row.amounts.co2) c.class-of.ensures)) more
+    subst S (sym (c.with-totals.ensures.is ∙ ap (λ k. counted c.loop-i.totals k row.amounts.co2) c.class_of.ensures)) more

@@ -10,15 +10,15 @@ pub returns-in-Add : goal.returns-in-Add
 unfolding line_of
 returns-in-Add c =
     let words = entry_words c.in-Add.entry in
-    held _ _ c.put-entry.ensures.whole c.put-entry.ensures.room
-    (c.put-entry.ensures.front ∙ ap (λ xs. behind xs words) c.begun-draft.ensures.put.front ∙ behind_join (verb_word Add) words ∙ ap line_of (sym c.in-Add.is))
+    held _ _ c.put_entry.ensures.whole c.put_entry.ensures.room
+    (c.put_entry.ensures.front ∙ ap (λ xs. behind xs words) c.begun-draft.ensures.put.front ∙ behind_join (verb_word Add) words ∙ ap line_of (sym c.in-Add.is))
 
 pub returns-in-Amend : goal.returns-in-Amend
 unfolding line_of
 returns-in-Amend c =
     let words = entry_words c.in-Amend.entry in
-    held _ _ c.put-entry-in-Amend.ensures.whole c.put-entry-in-Amend.ensures.room
-    (c.put-entry-in-Amend.ensures.front ∙ ap (λ xs. behind xs words) c.begun-draft-in-Amend.ensures.put.front ∙ behind_join (verb_word Amend) words ∙ ap line_of (sym c.in-Amend.is))
+    held _ _ c.put_entry-in-Amend.ensures.whole c.put_entry-in-Amend.ensures.room
+    (c.put_entry-in-Amend.ensures.front ∙ ap (λ xs. behind xs words) c.begun-draft-in-Amend.ensures.put.front ∙ behind_join (verb_word Amend) words ∙ ap line_of (sym c.in-Amend.is))
 
 pub returns-in-Delete : goal.returns-in-Delete
 unfolding line_of

@@ -8,10 +8,10 @@ returns c =
     let from = c.args.self.now.end in
     let bytes = c.args.self.now.bytes in
     let part = c.args.part.now in
-    let same = c.copy-from-slice.ensures.after in
-    let long : length c.copy-from-slice.new.self ≡ length part = ap length same in
+    let same = c.copy_from_slice.ensures.after in
+    let long : length c.copy_from_slice.new.self ≡ length part = ap length same in
     let within : from ≤ length bytes = omega arith in
-    let written = take-put_mid from _ bytes c.copy-from-slice.new.self (from + length part) (omega arith) within ∙ ap (λ ys. take from bytes ++ ys) same in
+    let written = take-put_mid from _ bytes c.copy_from_slice.new.self (from + length part) (omega arith) within ∙ ap (λ ys. take from bytes ++ ys) same in
     record {
       end = refl;
       front = written;
