@@ -10,7 +10,7 @@ use units::refusals::Refusal;
 
 pub(crate) fn no_items<T: Item, const N: usize>(blank: T) -> ShortList<T, N>
     ensures none { entries result ≡ [] }
-    ensures fit { all_fit fitting (entries result) ≡ true }
+    ensures fit { all_fit T.fitting (entries result) ≡ true }
 {
     ShortList::new(blank)
 }
@@ -19,9 +19,9 @@ pub(crate) fn add_item<T: Item, const N: usize>(
     list: &mut ShortList<T, N>,
     item: T,
 ) -> Result<(), Refusal>
-    ensures answer { result ≡ added owner (nat_le N (length (entries list.old))) (formed item) (is_some (listed naming (naming item) (entries list.old))) (fitting item) }
+    ensures answer { result ≡ added T.owner (nat_le N (length (entries list.old))) (T.formed item) (is_some (listed T.naming (T.naming item) (entries list.old))) (T.fitting item) }
     ensures after { entries list.new ≡ after_adding result (entries list.old) item }
-    ensures fit { all_fit fitting (entries list.old) ≡ true → all_fit fitting (entries list.new) ≡ true }
+    ensures fit { all_fit T.fitting (entries list.old) ≡ true → all_fit T.fitting (entries list.new) ≡ true }
 {
     list.add(item)
 }

@@ -36,7 +36,7 @@ pub(crate) fn capped(grams: u64) -> Answer
 
 // The answer from below, of which no fuel is over the limit of one flight.
 pub(crate) fn ask_below<E: Estimator>(below: &E, designator: Designator, measure: Measure) -> Answer
-    ensures is { result ≡ meaning below.now designator measure }
+    ensures is { result ≡ E.meaning below.now designator measure }
     ensures limited { within_limit result ≡ true }
 {
     below.ask(designator, measure)

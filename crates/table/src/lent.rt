@@ -38,16 +38,16 @@ impl<'a, R: Record> Table<'a, R> {
     }
 
     pub fn locate(&self, key: R::Key) -> Place
-        ensures is { result ≡ located (λ x. R.Key.Key.digits (keyed x)) unused self.now.slots.now self.now.count (R.Key.Key.digits key) }
-        ensures finds { Finds (λ x. R.Key.Key.digits (keyed x)) unused self.now.slots.now self.now.count (R.Key.Key.digits key) result }
-        ensures found { (i : ℕ) → result ≡ Place.Found i → keyed (slice_index_or self.now.slots.now i unused) ≡ key }
+        ensures is { result ≡ located (λ x. R.Key.Key.digits (R.keyed x)) R.unused self.now.slots.now self.now.count (R.Key.Key.digits key) }
+        ensures finds { Finds (λ x. R.Key.Key.digits (R.keyed x)) R.unused self.now.slots.now self.now.count (R.Key.Key.digits key) result }
+        ensures found { (i : ℕ) → result ≡ Place.Found i → R.keyed (slice_index_or self.now.slots.now i R.unused) ≡ key }
     {
         let count = self.count;
         steps::locate(self.slots, count, key)
     }
 
     pub fn read(&self, place: usize) -> Option<R>
-        ensures { result ≡ read_at unused self.now.slots.now self.now.count place }
+        ensures { result ≡ read_at R.unused self.now.slots.now self.now.count place }
     {
         let count = self.count;
         steps::read(self.slots, count, place)
@@ -57,7 +57,7 @@ impl<'a, R: Record> Table<'a, R> {
         ensures answer { result ≡ has_room self.old.slots.now self.old.count place }
         ensures slots { self.new.slots.now ≡ after_insert self.old.slots.now self.old.count place row }
         ensures count { self.new.count ≡ (if result then self.old.count + 1 else self.old.count) }
-        ensures ordered { result ≡ true → InsertsInOrder (λ x. R.Key.Key.digits (keyed x)) unused self.old.slots.now self.old.count place row self.new.slots.now }
+        ensures ordered { result ≡ true → InsertsInOrder (λ x. R.Key.Key.digits (R.keyed x)) R.unused self.old.slots.now self.old.count place row self.new.slots.now }
         ensures lent { self.new.slots.ghost_name ≡ self.old.slots.ghost_name }
     {
         let count = self.count;
@@ -72,7 +72,7 @@ impl<'a, R: Record> Table<'a, R> {
         ensures answer { result ≡ holds self.old.slots.now self.old.count place }
         ensures slots { self.new.slots.now ≡ after_replace self.old.slots.now self.old.count place row }
         ensures count { self.new.count ≡ self.old.count }
-        ensures ordered { result ≡ true → ReplacesInOrder (λ x. R.Key.Key.digits (keyed x)) unused self.old.slots.now self.old.count place row self.new.slots.now }
+        ensures ordered { result ≡ true → ReplacesInOrder (λ x. R.Key.Key.digits (R.keyed x)) R.unused self.old.slots.now self.old.count place row self.new.slots.now }
         ensures lent { self.new.slots.ghost_name ≡ self.old.slots.ghost_name }
     {
         let count = self.count;
@@ -81,10 +81,10 @@ impl<'a, R: Record> Table<'a, R> {
 
     pub fn remove(&mut self, place: usize) -> bool
         ensures answer { result ≡ holds self.old.slots.now self.old.count place }
-        ensures slots { self.new.slots.now ≡ after_remove unused self.old.slots.now self.old.count place }
+        ensures slots { self.new.slots.now ≡ after_remove R.unused self.old.slots.now self.old.count place }
         ensures count { self.new.count ≡ (if result then used self.old.slots.now self.old.count - 1 else self.old.count) }
-        ensures ordered { result ≡ true → RemovesInOrder (λ x. R.Key.Key.digits (keyed x)) unused self.old.slots.now self.old.count place self.new.slots.now }
-        ensures undone { result ≡ true → RemovesWhatWasPutIn (λ x. R.Key.Key.digits (keyed x)) unused self.old.slots.now self.old.count place self.new.slots.now }
+        ensures ordered { result ≡ true → RemovesInOrder (λ x. R.Key.Key.digits (R.keyed x)) R.unused self.old.slots.now self.old.count place self.new.slots.now }
+        ensures undone { result ≡ true → RemovesWhatWasPutIn (λ x. R.Key.Key.digits (R.keyed x)) R.unused self.old.slots.now self.old.count place self.new.slots.now }
         ensures lent { self.new.slots.ghost_name ≡ self.old.slots.ghost_name }
     {
         let count = self.count;
@@ -97,9 +97,9 @@ impl<'a, R: Record> Table<'a, R> {
     }
 
     pub fn clear(&mut self)
-        ensures slots { self.new.slots.now ≡ replicate (length self.old.slots.now) unused }
+        ensures slots { self.new.slots.now ≡ replicate (length self.old.slots.now) R.unused }
         ensures count { self.new.count ≡ 0 }
-        ensures ordered { Ordered (λ x. R.Key.Key.digits (keyed x)) unused self.new.slots.now 0 }
+        ensures ordered { Ordered (λ x. R.Key.Key.digits (R.keyed x)) R.unused self.new.slots.now 0 }
         ensures lent { self.new.slots.ghost_name ≡ self.old.slots.ghost_name }
     {
         steps::clear(self.slots);

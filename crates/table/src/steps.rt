@@ -19,9 +19,9 @@ pub enum Place {
 // Halves the places that may still hold the key, with one comparison each time.
 fn halve<R: Record>(slots: &[R], end: usize, key: R::Key) -> Place
     requires { end ≤ length slots.now }
-    ensures is { (n : ℕ) → end ≡ used slots.now n → result ≡ located (λ x. R.Key.Key.digits (keyed x)) unused slots.now n (R.Key.Key.digits key) }
-    ensures finds { (n : ℕ) → end ≡ used slots.now n → Finds (λ x. R.Key.Key.digits (keyed x)) unused slots.now n (R.Key.Key.digits key) result }
-    ensures found { (i : ℕ) → result ≡ Place.Found i → keyed (slice_index_or slots.now i unused) ≡ key }
+    ensures is { (n : ℕ) → end ≡ used slots.now n → result ≡ located (λ x. R.Key.Key.digits (R.keyed x)) R.unused slots.now n (R.Key.Key.digits key) }
+    ensures finds { (n : ℕ) → end ≡ used slots.now n → Finds (λ x. R.Key.Key.digits (R.keyed x)) R.unused slots.now n (R.Key.Key.digits key) result }
+    ensures found { (i : ℕ) → result ≡ Place.Found i → R.keyed (slice_index_or slots.now i R.unused) ≡ key }
 {
     let mut low = 0;
     let mut high = end;
@@ -38,16 +38,16 @@ fn halve<R: Record>(slots: &[R], end: usize, key: R::Key) -> Place
 
 // Where a key stands among the first records, or where it belongs. Of 32,768 records it compares at most 16.
 pub fn locate<R: Record>(slots: &[R], count: usize, key: R::Key) -> Place
-    ensures is { result ≡ located (λ x. R.Key.Key.digits (keyed x)) unused slots.now count (R.Key.Key.digits key) }
-    ensures finds { Finds (λ x. R.Key.Key.digits (keyed x)) unused slots.now count (R.Key.Key.digits key) result }
-    ensures found { (i : ℕ) → result ≡ Place.Found i → keyed (slice_index_or slots.now i unused) ≡ key }
+    ensures is { result ≡ located (λ x. R.Key.Key.digits (R.keyed x)) R.unused slots.now count (R.Key.Key.digits key) }
+    ensures finds { Finds (λ x. R.Key.Key.digits (R.keyed x)) R.unused slots.now count (R.Key.Key.digits key) result }
+    ensures found { (i : ℕ) → result ≡ Place.Found i → R.keyed (slice_index_or slots.now i R.unused) ≡ key }
 {
     halve(slots, count.min(slots.len()), key)
 }
 
 // The record at a place, if one stands there.
 pub fn read<R: Record>(slots: &[R], count: usize, place: usize) -> Option<R>
-    ensures { result ≡ read_at unused slots.now count place }
+    ensures { result ≡ read_at R.unused slots.now count place }
 {
     if place < count.min(slots.len()) {
         Some(slots[place])
@@ -76,7 +76,7 @@ fn move_down<R: Record>(slots: &mut [R], place: usize, end: usize)
 fn open<R: Record>(slots: &mut [R], place: usize, end: usize)
     requires { (place ≤ end) × (end < length slots.old) }
     ensures opens { (x : R) → slice_set slots.new place x ≡ put_in slots.old end place x }
-    ensures ordered { (x : R) → InsertsInOrder (λ x. R.Key.Key.digits (keyed x)) unused slots.old end place x (slice_set slots.new place x) }
+    ensures ordered { (x : R) → InsertsInOrder (λ x. R.Key.Key.digits (R.keyed x)) R.unused slots.old end place x (slice_set slots.new place x) }
 {
     move_up(slots, place, end);
 }
@@ -85,8 +85,8 @@ fn open<R: Record>(slots: &mut [R], place: usize, end: usize)
 fn close<R: Record>(slots: &mut [R], place: usize, end: usize)
     requires { (place < end) × (end ≤ length slots.old) }
     ensures closes { (x : R) → slice_set slots.new (end - 1) x ≡ taken_out x slots.old end place }
-    ensures ordered { (n : ℕ) → end ≡ used slots.old n → RemovesInOrder (λ x. R.Key.Key.digits (keyed x)) unused slots.old n place (slice_set slots.new (end - 1) unused) }
-    ensures undone { (n : ℕ) → end ≡ used slots.old n → RemovesWhatWasPutIn (λ x. R.Key.Key.digits (keyed x)) unused slots.old n place (slice_set slots.new (end - 1) unused) }
+    ensures ordered { (n : ℕ) → end ≡ used slots.old n → RemovesInOrder (λ x. R.Key.Key.digits (R.keyed x)) R.unused slots.old n place (slice_set slots.new (end - 1) R.unused) }
+    ensures undone { (n : ℕ) → end ≡ used slots.old n → RemovesWhatWasPutIn (λ x. R.Key.Key.digits (R.keyed x)) R.unused slots.old n place (slice_set slots.new (end - 1) R.unused) }
 {
     move_down(slots, place, end);
 }
@@ -95,7 +95,7 @@ fn close<R: Record>(slots: &mut [R], place: usize, end: usize)
 fn write<R: Record>(slots: &mut [R], place: usize, row: R)
     requires { place < length slots.old }
     ensures after { slots.new ≡ slice_set slots.old place row }
-    ensures ordered { (n : ℕ) → place < n → ReplacesInOrder (λ x. R.Key.Key.digits (keyed x)) unused slots.old n place row slots.new }
+    ensures ordered { (n : ℕ) → place < n → ReplacesInOrder (λ x. R.Key.Key.digits (R.keyed x)) R.unused slots.old n place row slots.new }
 {
     slots[place] = row;
 }
@@ -104,7 +104,7 @@ fn write<R: Record>(slots: &mut [R], place: usize, row: R)
 pub fn insert<R: Record>(slots: &mut [R], count: usize, place: usize, row: R) -> bool
     ensures answer { result ≡ has_room slots.old count place }
     ensures after { slots.new ≡ after_insert slots.old count place row }
-    ensures ordered { result ≡ true → InsertsInOrder (λ x. R.Key.Key.digits (keyed x)) unused slots.old count place row slots.new }
+    ensures ordered { result ≡ true → InsertsInOrder (λ x. R.Key.Key.digits (R.keyed x)) R.unused slots.old count place row slots.new }
 {
     let room = place <= count && count < slots.len();
     if room {
@@ -118,7 +118,7 @@ pub fn insert<R: Record>(slots: &mut [R], count: usize, place: usize, row: R) ->
 pub fn replace<R: Record>(slots: &mut [R], count: usize, place: usize, row: R) -> bool
     ensures answer { result ≡ holds slots.old count place }
     ensures after { slots.new ≡ after_replace slots.old count place row }
-    ensures ordered { result ≡ true → ReplacesInOrder (λ x. R.Key.Key.digits (keyed x)) unused slots.old count place row slots.new }
+    ensures ordered { result ≡ true → ReplacesInOrder (λ x. R.Key.Key.digits (R.keyed x)) R.unused slots.old count place row slots.new }
 {
     let held = place < count.min(slots.len());
     if held {
@@ -130,9 +130,9 @@ pub fn replace<R: Record>(slots: &mut [R], count: usize, place: usize, row: R) -
 // Takes a record out and leaves its place to the next; refused where none stands there.
 pub fn remove<R: Record>(slots: &mut [R], count: usize, place: usize) -> bool
     ensures answer { result ≡ holds slots.old count place }
-    ensures after { slots.new ≡ after_remove unused slots.old count place }
-    ensures ordered { result ≡ true → RemovesInOrder (λ x. R.Key.Key.digits (keyed x)) unused slots.old count place slots.new }
-    ensures undone { result ≡ true → RemovesWhatWasPutIn (λ x. R.Key.Key.digits (keyed x)) unused slots.old count place slots.new }
+    ensures after { slots.new ≡ after_remove R.unused slots.old count place }
+    ensures ordered { result ≡ true → RemovesInOrder (λ x. R.Key.Key.digits (R.keyed x)) R.unused slots.old count place slots.new }
+    ensures undone { result ≡ true → RemovesWhatWasPutIn (λ x. R.Key.Key.digits (R.keyed x)) R.unused slots.old count place slots.new }
 {
     let end = count.min(slots.len());
     let held = place < end;
@@ -146,7 +146,7 @@ pub fn remove<R: Record>(slots: &mut [R], count: usize, place: usize) -> bool
 // Writes a record at every place.
 fn fill<R: Record>(slots: &mut [R], row: R)
     ensures after { slots.new ≡ replicate (length slots.old) row }
-    ensures ordered { (x : R) → row ≡ x → Ordered (λ x. R.Key.Key.digits (keyed x)) x slots.new 0 }
+    ensures ordered { (x : R) → row ≡ x → Ordered (λ x. R.Key.Key.digits (R.keyed x)) x slots.new 0 }
 {
     for slot in slots.iter_mut() {
         *slot = row;
@@ -155,8 +155,8 @@ fn fill<R: Record>(slots: &mut [R], row: R)
 
 // Blanks every place.
 pub fn clear<R: Record>(slots: &mut [R])
-    ensures after { slots.new ≡ replicate (length slots.old) unused }
-    ensures ordered { Ordered (λ x. R.Key.Key.digits (keyed x)) unused slots.new 0 }
+    ensures after { slots.new ≡ replicate (length slots.old) R.unused }
+    ensures ordered { Ordered (λ x. R.Key.Key.digits (R.keyed x)) R.unused slots.new 0 }
 {
     fill(slots, R::blank());
 }

@@ -3,7 +3,7 @@ use Rattle.aerodromes.proofs.fitted.add_item.Goals as goal
 
 pub returns : goal.returns
 returns g c =
-    let m = g.row.T-Item in
+    let m = g.T.Item in
     record {
       answer = c.add.ensures.answer;
       after = c.add.ensures.after;

@@ -5,4 +5,4 @@ use Rattle.sums.proofs.changes.row_at.Goals as goal
 
 pub returns-else-place-rows : goal.returns-else-place-rows
 returns-else-place-rows g c =
-    c.blank.ensures ∙ sym (get_or_past c.args.rows.now c.args.place (blank g.row.K-Key.digits g.row.K-Key.zero) (omega arith))
+    c.blank.ensures ∙ sym (get_or_past c.args.rows.now c.args.place (blank g.K.Key.digits g.K.Key.zero) (omega arith))

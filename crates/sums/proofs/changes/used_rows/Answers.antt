@@ -6,8 +6,8 @@ use Rattle.sums.proofs.changes.used_rows.Goals as goal
 
 pub returns : goal.returns
 returns g c =
-    let digits = g.row.K-Key.digits in
-    let zero = g.row.K-Key.zero in
+    let digits = g.K.Key.digits in
+    let zero = g.K.Key.zero in
     let xs = c.args.rows.now in
     let n = used xs c.args.count in
     record {

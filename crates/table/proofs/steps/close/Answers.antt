@@ -7,7 +7,7 @@ use Rattle.table.proofs.steps.close.Goals as goal
 
 pub returns : goal.returns
 returns g c =
-    let D : g.row.R.Denot → List ℕ = λ x. g.row.R-Key-Key.digits (g.R.Record.keyed x) in
+    let D : g.row.R.Denot → List ℕ = λ x. g.R.Key.Key.digits (g.R.Record.keyed x) in
     let blank = g.R.Record.unused in
     let xs = c.args.slots.now in
     let end = c.args.end in

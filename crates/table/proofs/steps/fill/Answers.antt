@@ -13,5 +13,5 @@ returns g c =
     let after = c.loop-slot.invariant ∙ filled_all c.args.slots.now c.loop-slot.slot-index c.args.row (omega arith) in
     record {
       after = after;
-      ordered = λ x is. blank_ordered (λ y. g.row.R-Key-Key.digits (g.R.Record.keyed y)) x _ _ (after ∙ ap (replicate (length c.args.slots.now)) is);
+      ordered = λ x is. blank_ordered (λ y. g.R.Key.Key.digits (g.R.Record.keyed y)) x _ _ (after ∙ ap (replicate (length c.args.slots.now)) is);
     }

@@ -22,7 +22,7 @@ module _ {R : Type 0} (digits : R → List ℕ) (blank : R) (xs : List R) (end :
 
 pub loop-low-preserved-in-Less : goal.loop-low-preserved-in-Less
 loop-low-preserved-in-Less g c =
-    let D = g.row.R-Key-Key.digits in
+    let D = g.R.Key.Key.digits in
     let at = middle c.loop-low.low c.loop-low.high in
     let inside : at < length c.args.slots.now = omega (arith, c.loop-low.invariant.within) in
     left_above _ _ _ _ _ c.loop-low.invariant c.loop-low-test.true
@@ -31,7 +31,7 @@ loop-low-preserved-in-Less g c =
 
 pub returns-in-Equal : goal.returns-in-Equal
 returns-in-Equal g c =
-    let D = g.row.R-Key-Key.digits in
+    let D = g.R.Key.Key.digits in
     let at = middle c.loop-low.low c.loop-low.high in
     let inside : at < length c.args.slots.now = omega (arith, c.loop-low.invariant.within) in
     let e =
@@ -39,7 +39,7 @@ returns-in-Equal g c =
     (order_read (λ x. D (g.R.Record.keyed x)) g.R.Record.unused c.args.slots.now (D c.args.key) at _ inside c.index-slots-middle.is _
     (c.in-Equal.ensures.is ∙ ap (λ k. compared (D k) (D c.args.key)) c.key.ensures)) in
     let alike = subst (Tells (D c.key.result) (D c.args.key)) (sym c.in-Equal.ensures.is) (compared_tells (D c.key.result) (D c.args.key)) in
-    let very = g.row.R-Key-Key.told c.key.result c.args.key c.in-Equal.ensures.sized.0 c.in-Equal.ensures.sized.1 alike in
+    let very = g.R.Key.Key.told c.key.result c.args.key c.in-Equal.ensures.sized.0 c.in-Equal.ensures.sized.1 alike in
     record {
       is = answers (λ x. D (g.R.Record.keyed x)) g.R.Record.unused c.args.slots.now c.args.end (D c.args.key) _ e;
       finds = finds (λ x. D (g.R.Record.keyed x)) g.R.Record.unused c.args.slots.now c.args.end (D c.args.key) _ e;
@@ -51,7 +51,7 @@ returns-in-Equal g c =
 
 pub loop-low-preserved : goal.loop-low-preserved
 loop-low-preserved g c =
-    let D = g.row.R-Key-Key.digits in
+    let D = g.R.Key.Key.digits in
     let at = middle c.loop-low.low c.loop-low.high in
     let inside : at < length c.args.slots.now = omega (arith, c.loop-low.invariant.within) in
     left_below _ _ _ _ _ c.loop-low.invariant c.loop-low-test.true
@@ -60,7 +60,7 @@ loop-low-preserved g c =
 
 pub returns : goal.returns
 returns g c =
-    let D = g.row.R-Key-Key.digits in
+    let D = g.R.Key.Key.digits in
     let e = left_none _ _ _ _ _ c.loop-low.invariant c.loop-low-test.false in
     record {
       is = answers (λ x. D (g.R.Record.keyed x)) g.R.Record.unused c.args.slots.now c.args.end (D c.args.key) _ e;

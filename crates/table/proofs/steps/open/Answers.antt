@@ -6,7 +6,7 @@ use Rattle.table.proofs.steps.open.Goals as goal
 
 pub returns : goal.returns
 returns g c =
-    let D : g.row.R.Denot → List ℕ = λ x. g.row.R-Key-Key.digits (g.R.Record.keyed x) in
+    let D : g.row.R.Denot → List ℕ = λ x. g.R.Key.Key.digits (g.R.Record.keyed x) in
     let xs = c.args.slots.now in
     let n = c.args.end in
     let p = c.args.place in
