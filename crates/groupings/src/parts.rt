@@ -20,7 +20,7 @@ fn amounts(worked: &WorkedEntry) -> Amounts
 
 // The row that an entry adds to a table of its grouping; none where its flights are exempt.
 pub fn part<G: Grouping>(worked: &WorkedEntry) -> Option<Row<G::Key>>
-    ensures { result ≡ part_of grouped worked.now }
+    ensures { result ≡ part_of G.grouped worked.now }
 {
     if worked.entry.exempt {
         return None;
