@@ -1,5 +1,5 @@
 -- An addition keeps a list of which every item fits. Assumes nothing.
-use Rattle.std.proofs.Common.{◌≡◌, ℕ, Bool, true, false, ◌&&◌, leb, List, [], ◌∷◌, ◌++◌, length, is_some, Result, refl, ap, ◌∙◌}
+use Rattle.std.proofs.Common.{◌≡◌, ℕ, Bool, true, false, leb, List, [], ◌∷◌, ◌++◌, length, is_some, Result, refl, ap, ◌∙◌}
 use Rattle.std.proofs.lemmas.Bool.{and_parts, and_from}
 use Rattle.units.specs.declared.refusals.ListOwner.{ListOwner}
 use Rattle.units.specs.declared.refusals.Refusal.{Refusal}

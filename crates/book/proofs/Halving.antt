@@ -1,7 +1,7 @@
 -- Halving a run of items that rise by their first bytes. Assumes nothing.
-use Rattle.std.proofs.Common.{◌≡◌, ℕ, ◌+◌, ◌*◌, ◌/◌, ◌<◌, ◌≤◌, Bool, true, false, List, length, Some, None, sym, refl, ap, ◌∙◌, subst, ⊎_elim, mul_comm, mul-le-mul_left, mul-one, mul-add, div-mul-le_self, arith}
+use Rattle.std.proofs.Common.{◌≡◌, ℕ, ◌+◌, ◌*◌, ◌<◌, ◌≤◌, true, false, List, length, Some, None, sym, ap, ◌∙◌, subst, ⊎_elim, mul_comm, mul-le-mul_left, mul-one, mul-add, div-mul-le_self, arith}
 use Rattle.std.proofs.lemmas.Bool.{cases_lt, cases_eq}
-use Rattle.units.specs.Order.{earlier, same}
+use Rattle.units.specs.Order.{earlier}
 use Rattle.units.proofs.Ordered.{earlier_trans, earlier_not_same, neither_same, same_equal, same_sym}
 use Rattle.units.proofs.Searched.{none_first, some_first}
 use Rattle.book.specs.Bytes.{items, front, find, Rising}

@@ -1,5 +1,5 @@
 -- What sections of which no item is wrong give their readers. Assumes nothing.
-use Rattle.std.proofs.Common.{◌≡◌, ℕ, zero, suc, ◌+◌, ◌-◌, ◌*◌, ◌<◌, ◌≤◌, Bool, true, false, cond, not, ◌&&◌, ◌||◌, eqb, ltb, leb, List, length, get_or, take, drop, is_some, is_ok, Some, None, Ok, Err, Option, sym, refl, ap, ◌∙◌, subst, ⊎_elim, arith}
+use Rattle.std.proofs.Common.{◌≡◌, ℕ, zero, suc, ◌+◌, ◌-◌, ◌*◌, ◌<◌, ◌≤◌, Bool, true, false, cond, not, ◌&&◌, ◌||◌, eqb, ltb, leb, List, length, get_or, take, drop, is_some, is_ok, Some, None, Option, sym, refl, ap, ◌∙◌, subst, ⊎_elim, arith}
 use Rattle.std.proofs.lemmas.Bool.{true≢false, false≢true, and_parts, or_parts, leb-true, lt-ltb, le-ltb, and_from, and_right, not-false, cond-true, cond-false, cases_eq, cases_lt}
 use Rattle.std.proofs.lemmas.List.{get_or-take}
 use Rattle.std.proofs.lemmas.Bool.Decides.{nat_tests as tells}
@@ -16,8 +16,8 @@ use Rattle.units.proofs.Ordered.{earlier_trans, same_equal}
 use Rattle.units.proofs.Searched.{first_none, first_some}
 use Rattle.book.specs.Bytes.{items, front, find, Rising}
 use Rattle.book.specs.Check.{all_good, columns_checked, rows_checked, aerodromes_checked, marks_checked, items_checked, row_bad, aerodrome_bad, sound}
-use Rattle.book.specs.Contents.{columns, column_of, fuel_count_of, fuel_of, row_key, row_place}
-use Rattle.book.specs.Items.{tier_of, fuel, fuel_wrong, columns_for, count_wrong, column, column_wrong, row_wrong, aerodrome_wrong, mark_wrong, out_of_order}
+use Rattle.book.specs.Contents.{columns, fuel_count_of, fuel_of, row_key, row_place}
+use Rattle.book.specs.Items.{tier_of, fuel, fuel_wrong, columns_for, count_wrong, column, column_wrong, row_wrong, mark_wrong, out_of_order}
 use Rattle.book.specs.Promise.{Columns, Fuels}
 use Rattle.book.specs.Sections.{Sections}
 use Rattle.book.proofs.Passing.{after_ok}

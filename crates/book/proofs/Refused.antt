@@ -1,5 +1,5 @@
 -- A loop over a section's items, told by its refusal. Assumes nothing.
-use Rattle.std.proofs.Common.{◌≡◌, ℕ, ◌<◌, ◌≤◌, Bool, true, false, Ok, Err, sym, refl, ap, ◌∙◌}
+use Rattle.std.proofs.Common.{◌≡◌, ℕ, ◌<◌, ◌≤◌, Bool, true, Ok, Err, sym, ap}
 use Rattle.units.specs.Places.{first}
 use Rattle.units.specs.declared.refusals.Refusal.{Refusal}
 use Rattle.units.proofs.Searched.{Passed, passed_hit, passed_all}

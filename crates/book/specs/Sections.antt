@@ -1,5 +1,5 @@
 -- The header of a data book and the sections that follow it. Assumes nothing.
-use Rattle.std.specs.Prelude.{ℕ, ◌+◌, ◌*◌, Bool, not, ◌&&◌, ◌||◌, List, [], length, ◌==◌, nat_le}
+use Rattle.std.specs.Prelude.{ℕ, ◌+◌, ◌*◌, Bool, ◌&&◌, ◌||◌, List, [], length, ◌==◌, nat_le}
 use Rattle.std.specs.List.{between}
 use Rattle.book.specs.declared.format.Header.{Header}
 use Rattle.book.specs.declared.format.Starts.{Starts}

@@ -1,19 +1,18 @@
 -- The estimate of a sound book's row climbs. Assumes nothing.
-use Rattle.std.proofs.Common.{◌≡◌, ℕ, zero, suc, ◌+◌, ◌-◌, ◌*◌, ◌<◌, ◌≤◌, Bool, true, false, leb, Some, None, Option, sym, refl, ap, ◌∙◌, subst, ⊎_elim, arith}
+use Rattle.std.proofs.Common.{◌≡◌, ℕ, zero, suc, ◌+◌, ◌-◌, ◌*◌, ◌<◌, ◌≤◌, true, Some, None, Option, sym, refl, ap, ◌∙◌, subst, ⊎_elim, arith}
 use Rattle.std.proofs.lemmas.Bool.{le-leb, lt-leb, leb-true, leb-false, cases_lt, cases_eq, cases_order}
 use Rattle.units.specs.declared.codes.Designator.{Designator}
 use Rattle.units.specs.declared.measures.Kind.{Kind}
 use Rattle.units.proofs.Searched.{first_some, some_first, none_first}
-use Rattle.book.specs.Bytes.{items}
 use Rattle.book.specs.Check.{sound}
-use Rattle.book.specs.Contents.{columns, column_of, fuel_of, fuel_count_of, row_place}
+use Rattle.book.specs.Contents.{column_of, fuel_of, fuel_count_of, row_place}
 use Rattle.book.specs.Sections.{Sections}
 use Rattle.book.proofs.Promises.{columns_promised, fuels_promised}
 use Rattle.estimators.specs.Between.{on_line_le, on_line_ge, on_line_start, on_line_end, on_line_mono}
 use Rattle.estimators.specs.Climbs.{Between, Climbs}
 use Rattle.estimators.specs.Laws.{of}
 use Rattle.estimators.specs.Rows.{on_line, on_segment, segment, row_answer, rows_meaning}
-use Rattle.estimators.specs.declared.answers.Answer.TheVariants.{Fuel, NotKnown, Beyond}
+use Rattle.estimators.specs.declared.answers.Answer.TheVariants.{Fuel, Beyond}
 use Rattle.estimators.proofs.Lines.{reaches}
 
 -- what never falls from one place to the next never falls

@@ -1,5 +1,5 @@
 -- The estimate of a book's rows: a straight line between two columns. Assumes nothing.
-use Rattle.std.specs.Prelude.{ℕ, ◌+◌, ◌-◌, ◌*◌, List, Some, None, Option, nat_le}
+use Rattle.std.specs.Prelude.{ℕ, ◌+◌, ◌-◌, ◌*◌, Some, None, Option, nat_le}
 use Rattle.units.specs.Amount.{nearest}
 use Rattle.units.specs.Places.{first}
 use Rattle.units.specs.declared.codes.Designator.{Designator}

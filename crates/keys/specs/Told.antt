@@ -1,8 +1,6 @@
 -- Keys with the same digits are the same key, for each kind of key. Assumes nothing.
-use Rattle.std.specs.Prelude.{◌≡◌, ℕ, List, [], ◌∷◌, ◌++◌, length, get_or, take, drop, refl}
+use Rattle.std.specs.Prelude.{◌≡◌, ℕ, List, [], ◌∷◌, ◌++◌, length, take, drop}
 use Rattle.std.proofs.Common.{sym, ap, ◌∙◌, take_at, drop_at}
-use Rattle.units.specs.declared.codes.AerodromeCode.{AerodromeCode}
-use Rattle.units.specs.declared.codes.Designator.{Designator}
 use Rattle.keys.specs.declared.kinds.Reference.{Reference}
 use Rattle.keys.specs.declared.kinds.StatePair.{StatePair}
 use Rattle.keys.specs.declared.kinds.AerodromePair.{AerodromePair}

@@ -1,5 +1,5 @@
 -- The generic equation: fuel by a type's category and mass. Assumes nothing.
-use Rattle.std.specs.Prelude.{ℕ, ◌+◌, ◌-◌, ◌*◌, Bool, false, cond, ◌&&◌, List, [], ◌∷◌, ℤ, pos, negsuc, ◌+ℤ◌, ◌*ℤ◌, neg_ℤ, Some, None, Option, ◌==◌, nat_le, slice_index_or}
+use Rattle.std.specs.Prelude.{ℕ, ◌+◌, ◌-◌, ◌*◌, Bool, cond, ◌&&◌, List, [], ◌∷◌, ℤ, pos, negsuc, ◌+ℤ◌, ◌*ℤ◌, neg_ℤ, Some, None, Option, ◌==◌, nat_le, slice_index_or}
 use Rattle.units.specs.Amount.{nearest}
 use Rattle.units.specs.Measuring.{kind_number}
 use Rattle.units.specs.declared.measures.Kind.{Kind}

@@ -1,5 +1,5 @@
 -- Each layer over an estimator that meets the laws meets them too. Assumes nothing.
-use Rattle.std.specs.Prelude.{◌≡◌, ℕ, ◌*◌, Bool, true, false, cond, ◌||◌, List, Some, None, Option, nat_le, refl}
+use Rattle.std.specs.Prelude.{◌≡◌, ℕ, ◌*◌, true, ◌||◌, List, Some, None, Option, nat_le, refl}
 use Rattle.std.proofs.Common.{sym, ◌∙◌}
 use Rattle.std.proofs.lemmas.Bool.{cond_both}
 use Rattle.units.specs.Amount.{nearest, fuel_limit}

@@ -1,14 +1,14 @@
 -- A line that is taken is the line of its order.
-use Rattle.std.proofs.Common.{◌≡◌, ℕ, ◌+◌, ◌<◌, ◌≤◌, Bool, true, false, cond, eqb, ltb, ◌⊎◌, List, [], ◌∷◌, ◌++◌, length, get_or, Some, None, Ok, Err, Option, Result, sym, refl, ap, ◌∙◌, subst, inl, inr, arith}
+use Rattle.std.proofs.Common.{◌≡◌, ℕ, ◌≤◌, true, false, cond, eqb, List, [], ◌∷◌, length, Some, Ok, Err, Result, sym, refl, ap, ◌∙◌, inl, inr, arith}
 use Rattle.std.specs.Option.{ok_or}
 use Rattle.std.proofs.lemmas.Bool.Decides.{eqb_tells, Decides-eqb}
 use Rattle.units.specs.declared.entries.Entry.{Entry}
 use Rattle.units.specs.declared.refusals.Refusal.{Refusal}
-use Rattle.units.specs.declared.refusals.Refusal.TheVariants.{LineLength, LineVerb, LineFields, LineField}
+use Rattle.units.specs.declared.refusals.Refusal.TheVariants.{LineVerb, LineFields}
 use Rattle.lines.specs.Fields.{split, join, onto, part, comma}
 use Rattle.lines.specs.Laws.{SpeltAgain}
 use Rattle.lines.specs.Forms.{fields_of, verb, number}
-use Rattle.lines.specs.Reading.{entry_in, order_in, parts_read, read, asked, line_limit}
+use Rattle.lines.specs.Reading.{entry_in, order_in, parts_read, asked}
 use Rattle.lines.specs.Spelling.{entry_words, order_words, line_of}
 use Rattle.lines.specs.declared.orders.Order.{Order}
 use Rattle.lines.specs.declared.orders.Order.TheVariants.{Add, Amend, Delete}

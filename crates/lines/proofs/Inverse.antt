@@ -1,5 +1,5 @@
 -- What a step that was taken says of its parts, and lists of known length.
-use Rattle.std.proofs.Common.{◌≡◌, ℕ, Bool, true, false, cond, List, [], ◌∷◌, ◌++◌, Some, None, Ok, Err, Option, Result, sym, refl, ap, ◌∙◌, arith}
+use Rattle.std.proofs.Common.{◌≡◌, ℕ, Bool, true, false, cond, Some, None, Ok, Err, Option, Result, refl, arith}
 use Rattle.std.specs.Option.{ok_or}
 use Rattle.units.specs.Steps.{then}
 use Rattle.units.specs.declared.refusals.Refusal.{Refusal}

@@ -1,5 +1,5 @@
 -- A field that spells a value is how that value is spelt.
-use Rattle.std.proofs.Common.{◌≡◌, ℕ, ◌+◌, ◌^◌, ◌<◌, ◌≤◌, Bool, true, false, cond, not, ◌&&◌, ◌||◌, eqb, leb, ◌⊎◌, List, [], ◌∷◌, ◌++◌, length, get_or, take, drop, Some, None, decimal, Option, sym, refl, ap, ◌∙◌, subst, inl, inr, arith}
+use Rattle.std.proofs.Common.{◌≡◌, ℕ, ◌≤◌, Bool, true, false, cond, ◌&&◌, eqb, leb, ◌⊎◌, List, [], ◌∷◌, length, get_or, Some, None, decimal, Option, sym, refl, ap, ◌∙◌, inl, inr, arith}
 use Rattle.std.specs.Str.Parse.{digits_value}
 use Rattle.std.specs.Str.{all_ascii_digits, bytes_eq}
 use Rattle.std.proofs.lemmas.Fmt.{decimal-digits_value}
@@ -9,7 +9,7 @@ use Rattle.units.specs.declared.codes.AerodromeCode.{AerodromeCode}
 use Rattle.units.specs.declared.codes.Designator.{Designator}
 use Rattle.units.specs.declared.measures.Kind.{Kind}
 use Rattle.units.specs.declared.measures.Kind.TheVariants.{Distance, Time}
-use Rattle.units.specs.Alphabet.{character, space}
+use Rattle.units.specs.Alphabet.{space}
 use Rattle.lines.specs.Forms.{verb, verb_word, number, numeral, characters, type_of, type_word, filled, code_of, kind_of, kind_letter, reported_of, reported_word, some_of, exempt_of, exempt_word, marked, lettered}
 use Rattle.lines.specs.declared.orders.Verb.{Verb}
 use Rattle.lines.specs.declared.orders.Verb.TheVariants.{Add, Amend, Delete}

@@ -1,5 +1,5 @@
 -- What one pass over a line knows of its fields. Assumes nothing.
-use Rattle.std.specs.Prelude.{◌≡◌, ℕ, ◌+◌, ◌<◌, ◌≤◌, List, [], ◌∷◌, ◌++◌, length, drop, slice_index_or}
+use Rattle.std.specs.Prelude.{◌≡◌, ℕ, ◌<◌, ◌≤◌, List, [], ◌∷◌, ◌++◌, length, drop, slice_index_or}
 use Rattle.std.specs.List.{between}
 use Rattle.lines.specs.Fields.{split}
 use Rattle.lines.specs.declared.cuts.Cuts.{Cuts}

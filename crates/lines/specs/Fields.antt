@@ -1,5 +1,5 @@
 -- The fields of a line: its parts between commas. Assumes nothing.
-use Rattle.std.specs.Prelude.{ℕ, ◌-◌, Bool, cond, List, [], ◌∷◌, ◌++◌, ◌==◌, slice_index_or}
+use Rattle.std.specs.Prelude.{ℕ, ◌-◌, cond, List, [], ◌∷◌, ◌++◌, ◌==◌, slice_index_or}
 
 abbrev pub comma : ℕ
 comma = 44

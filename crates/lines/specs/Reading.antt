@@ -1,9 +1,8 @@
 -- What a line spells, or the first check that it fails. Assumes nothing.
-use Rattle.std.specs.Prelude.{ℕ, Bool, cond, List, length, Ok, Err, Option, Result, ◌==◌, nat_lt}
+use Rattle.std.specs.Prelude.{ℕ, cond, List, length, Ok, Err, Option, Result, ◌==◌, nat_lt}
 use Rattle.std.specs.Option.{ok_or}
 use Rattle.units.specs.Steps.{then}
 use Rattle.units.specs.declared.entries.Entry.{Entry}
-use Rattle.units.specs.declared.measures.Measure.{Measure}
 use Rattle.units.specs.declared.refusals.Refusal.{Refusal}
 use Rattle.units.specs.declared.refusals.Refusal.TheVariants.{LineLength, LineVerb, LineFields, LineField}
 use Rattle.lines.specs.Fields.{split, part}

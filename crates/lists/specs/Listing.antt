@@ -1,5 +1,5 @@
 -- A short list: looking an item up by its name, and adding one. Assumes nothing.
-use Rattle.std.specs.Prelude.{ℕ, Bool, cond, not, leb, List, [], ◌∷◌, ◌++◌, length, is_some, is_ok, Some, None, Ok, Err, Option, Result}
+use Rattle.std.specs.Prelude.{ℕ, Bool, cond, List, [], ◌∷◌, ◌++◌, is_ok, Some, None, Ok, Err, Option, Result}
 use Rattle.units.specs.Order.{same}
 use Rattle.units.specs.declared.refusals.ListOwner.{ListOwner}
 use Rattle.units.specs.declared.refusals.Refusal.{Refusal}

@@ -1,5 +1,5 @@
 -- Flights, fuel and CO2 added up and taken back. Assumes nothing.
-use Rattle.std.specs.Prelude.{ℕ, ◌+◌, ◌-◌, Bool, cond, ◌&&◌, Some, None, Option, ◌==◌, nat_le, nat_lt}
+use Rattle.std.specs.Prelude.{◌+◌, ◌-◌, Bool, cond, ◌&&◌, Some, None, Option, ◌==◌, nat_le, nat_lt}
 use Rattle.sums.specs.declared.amounts.Amounts.{Amounts}
 
 abbrev pub none : Amounts

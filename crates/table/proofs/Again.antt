@@ -1,5 +1,5 @@
 -- A look-up in a table in order has one answer, also after a change. Assumes nothing.
-use Rattle.std.proofs.Common.{◌≡◌, ℕ, suc, ◌+◌, ◌-◌, ◌<◌, ◌≤◌, min, Bool, true, false, cond, eqb, ltb, List, [], ◌∷◌, ◌++◌, length, get_or, take, drop, set, sym, refl, ap, ◌∙◌, subst, ⊎_elim, arith}
+use Rattle.std.proofs.Common.{◌≡◌, ℕ, ◌+◌, ◌-◌, ◌<◌, ◌≤◌, min, true, eqb, ltb, List, length, get_or, take, set, sym, ap, ◌∙◌, subst, ⊎_elim, arith}
 use Rattle.std.specs.List.{insert, remove}
 use Rattle.std.proofs.lemmas.List.Edits.{length-insert, get_or-insert_at, length-remove, get_or-remove_below, get_or-remove_above}
 use Rattle.std.proofs.lemmas.List.{length-take-le, length-set, get_or-take}
@@ -11,7 +11,7 @@ use Rattle.keys.proofs.Comparing.{earlier_not_later}
 use Rattle.table.specs.declared.steps.Place.{Place}
 use Rattle.table.specs.declared.steps.Place.TheVariants.{Found, Free}
 use Rattle.table.specs.Changing.{put_in, taken_out}
-use Rattle.table.specs.Locating.{halved, order_at, located, after_taking}
+use Rattle.table.specs.Locating.{halved, located, after_taking}
 use Rattle.table.specs.Order.{Rising, Ordered, Between, Told}
 use Rattle.table.proofs.Contents.{put_in_inserted, taken_out_removed}
 use Rattle.table.proofs.Finding.{located_tells}

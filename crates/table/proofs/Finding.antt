@@ -1,13 +1,11 @@
 -- What a look-up by halving finds in a table in order, and in how many turns. Assumes nothing.
-use Rattle.std.proofs.Common.{◌≡◌, ℕ, zero, suc, ◌+◌, ◌-◌, ◌*◌, ◌/◌, ◌^◌, ◌<◌, ◌≤◌, min, true, ltb, List, length, get_or, take, Ordering, Less, Equal, Greater, sym, refl, ap, ◌∙◌, subst, ⊎_elim, pow-suc, arith, length-take}
+use Rattle.std.proofs.Common.{◌≡◌, ℕ, zero, suc, ◌+◌, ◌-◌, ◌^◌, ◌<◌, ◌≤◌, min, true, List, length, get_or, take, Ordering, Less, Equal, Greater, sym, ap, ◌∙◌, subst, ⊎_elim, pow-suc, arith, length-take}
 use Rattle.std.proofs.lemmas.List.{get_or-take}
 use Rattle.std.proofs.lemmas.Bool.{cases_lt, cases_eq}
 use Rattle.units.specs.Order.{earlier}
 use Rattle.units.proofs.Ordered.{earlier_trans}
 use Rattle.keys.specs.Compared.{compared}
 use Rattle.keys.proofs.Comparing.{Tells, compared_tells}
-use Rattle.table.specs.declared.steps.Place.{Place}
-use Rattle.table.specs.declared.steps.Place.TheVariants.{Found, Free}
 use Rattle.table.specs.Locating.{middle, half, halved, order_at, located}
 use Rattle.table.specs.Order.{Rising, Between, Told}
 use Rattle.table.proofs.Halving.{halved_turn, halved_end}

@@ -1,5 +1,5 @@
 -- Changes keep a table in order. Assumes nothing.
-use Rattle.std.proofs.Common.{◌≡◌, ℕ, suc, ◌+◌, ◌-◌, ◌<◌, ◌≤◌, min, true, List, [], ◌∷◌, ◌++◌, length, get_or, take, drop, set, replicate, sym, refl, ap, ◌∙◌, subst, ⊎_elim, arith, length-take}
+use Rattle.std.proofs.Common.{◌≡◌, ℕ, suc, ◌+◌, ◌-◌, ◌<◌, ◌≤◌, true, List, ◌∷◌, ◌++◌, length, get_or, take, drop, set, replicate, sym, ap, ◌∙◌, subst, ⊎_elim, arith}
 use lib.Seq.{take-set-lt}
 use lib.ListN.{length-replicate}
 use Rattle.std.specs.List.{insert, remove}
@@ -7,7 +7,7 @@ use Rattle.std.proofs.lemmas.List.Edits.{length-insert, get_or-insert_below, get
 use Rattle.std.proofs.lemmas.List.{length-take-le, length-set, get_or-take, get_or-set_same, get_or-set_other, take-append-drop, drop-drop, drop-set-lt, drop-replicate}
 use Rattle.std.proofs.lemmas.Bool.{cases_lt, cases_eq, cases_order}
 use Rattle.units.specs.Order.{earlier}
-use Rattle.table.specs.declared.steps.Place.TheVariants.{Found, Free}
+use Rattle.table.specs.declared.steps.Place.TheVariants.{Free}
 use Rattle.table.specs.Changing.{put_in, taken_out}
 use Rattle.table.specs.Locating.{located}
 use Rattle.table.specs.Order.{Rising, Ordered, Between, Told, InOrder}

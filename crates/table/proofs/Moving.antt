@@ -1,8 +1,7 @@
 -- A block of records moved by one place, as list equations. Assumes nothing.
-use Rattle.std.proofs.Common.{◌≡◌, ℕ, suc, ◌+◌, ◌-◌, ◌<◌, ◌≤◌, min, List, [], ◌∷◌, ◌++◌, length, get_or, take, drop, set, replicate, sym, refl, ap, ◌∙◌, append_assoc, arith, length-append, length-drop, length-take, take-take}
+use Rattle.std.proofs.Common.{◌≡◌, ℕ, suc, ◌+◌, ◌-◌, ◌<◌, ◌≤◌, List, [], ◌∷◌, ◌++◌, length, get_or, take, drop, set, replicate, sym, ap, ◌∙◌, append_assoc, arith, length-append, length-drop, length-take, take-take}
 use lib.ListN.{length-replicate}
 use lib.Seq.{paste, set_at}
-use Rattle.std.specs.List.{between, insert, remove}
 use Rattle.std.proofs.lemmas.List.{append-nil, take_more, drop_more, drop_all, length-take-le, replicate_more}
 use Rattle.std.proofs.lemmas.Slice.{between_is}
 use Rattle.table.specs.Changing.{put_in, taken_out}

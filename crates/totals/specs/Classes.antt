@@ -1,5 +1,5 @@
 -- The class of a pair of States. Assumes nothing.
-use Rattle.std.specs.Prelude.{ℕ, ◌-◌, Bool, true, false, cond, ◌&&◌, List, ◌==◌, nat_le, slice_index}
+use Rattle.std.specs.Prelude.{ℕ, ◌-◌, Bool, false, cond, ◌&&◌, List, ◌==◌, nat_le, slice_index}
 use Rattle.keys.specs.declared.kinds.StatePair.{StatePair}
 use Rattle.totals.specs.declared.classes.Class.{Class}
 use Rattle.totals.specs.declared.classes.Class.TheVariants.{Domestic, International, Subject}

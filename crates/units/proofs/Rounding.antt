@@ -1,5 +1,5 @@
 -- What rounding to the nearest gives. Assumes nothing.
-use Rattle.std.proofs.Common.{◌≡◌, ℕ, ◌+◌, ◌-◌, ◌*◌, ◌/◌, ◌<◌, ◌≤◌, sym, refl, ap, ◌∙◌, subst, add-mul, one-mul, le-mul_of_pos_right, div-mul-le_self, mul_left_comm, arith, Fits}
+use Rattle.std.proofs.Common.{◌≡◌, ℕ, ◌+◌, ◌*◌, ◌/◌, ◌<◌, ◌≤◌, ◌∙◌, add-mul, one-mul, le-mul_of_pos_right, div-mul-le_self, mul_left_comm, arith, Fits}
 use native.Mathlib.Nat.{div-zero}
 use mir.Syntax.{Width}
 use Rattle.std.proofs.lemmas.Nat.{div_below, le-div}

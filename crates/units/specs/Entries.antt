@@ -3,10 +3,7 @@ use Rattle.std.specs.Prelude.{ℕ, ◌*◌, Bool, true, false, ◌&&◌, Some, N
 use Rattle.units.specs.Alphabet.{designator, aerodrome_code}
 use Rattle.units.specs.Measuring.{in_range}
 use Rattle.units.specs.Steps.{then}
-use Rattle.units.specs.declared.codes.AerodromeCode.{AerodromeCode}
-use Rattle.units.specs.declared.codes.Designator.{Designator}
 use Rattle.units.specs.declared.entries.Entry.{Entry}
-use Rattle.units.specs.declared.measures.Measure.{Measure}
 use Rattle.units.specs.declared.refusals.Refusal.{Refusal}
 use Rattle.units.specs.declared.refusals.Refusal.TheVariants.{OutOfRange}
 

@@ -1,5 +1,5 @@
 -- How an entry is worked out, over the meanings of an estimator and a directory. Assumes nothing.
-use Rattle.std.specs.Prelude.{◌≡◌, ℕ, ◌*◌, ◌≤◌, Bool, true, false, ◌||◌, Some, None, Ok, Err, Option, Result, nat_lt}
+use Rattle.std.specs.Prelude.{ℕ, ◌*◌, ◌≤◌, Bool, true, false, ◌||◌, Some, None, Ok, Err, Option, Result, nat_lt}
 use Rattle.std.specs.Option.{ok_or}
 use Rattle.units.specs.Amount.{co2}
 use Rattle.units.specs.Entries.{entry_checked}

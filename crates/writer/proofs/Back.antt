@@ -1,28 +1,25 @@
 -- The line of an order that is in range reads as that order.
-use Rattle.std.proofs.Common.{◌≡◌, ℕ, ◌+◌, ◌*◌, ◌^◌, ◌<◌, ◌≤◌, Bool, true, false, cond, ◌&&◌, eqb, ltb, leb, List, [], ◌∷◌, ◌++◌, length, get_or, take, drop, is_ok, Some, None, Ok, Err, decimal, Option, Result, sym, refl, ap, ◌∙◌, subst, arith, length-append, length-take}
+use Rattle.std.proofs.Common.{◌≡◌, ℕ, ◌+◌, ◌*◌, ◌<◌, ◌≤◌, Bool, true, false, cond, ◌&&◌, ltb, leb, List, [], ◌∷◌, length, get_or, take, drop, is_ok, Some, None, Ok, decimal, Option, Result, sym, refl, ap, ◌∙◌, subst, arith, length-append, length-take}
 use Rattle.std.proofs.lemmas.List.{take_at}
-use Rattle.std.specs.Option.{ok_or}
 use Rattle.std.proofs.lemmas.Fmt.{length-decimal-le}
 use Rattle.std.proofs.lemmas.Bool.Decides.{nat_tests}
 use Rattle.units.specs.Alphabet.{designator, aerodrome_code, space}
-use Rattle.units.specs.Entries.{within, entry_checked, reference_checked, reference_in_range, flights_in_range, reported_in_range}
-use Rattle.units.specs.Measuring.{in_range, limit}
+use Rattle.units.specs.Entries.{within, entry_checked, reference_in_range, flights_in_range, reported_in_range}
+use Rattle.units.specs.Measuring.{limit}
 use Rattle.units.specs.Steps.{then}
 use Rattle.units.specs.declared.codes.Designator.{Designator}
 use Rattle.units.specs.declared.entries.Entry.{Entry}
 use Rattle.units.specs.declared.measures.Kind.{Kind}
 use Rattle.units.specs.declared.measures.Kind.TheVariants.{Distance, Time}
-use Rattle.units.specs.declared.measures.Measure.{Measure}
 use Rattle.units.specs.declared.refusals.Refusal.{Refusal}
-use Rattle.units.specs.declared.refusals.Refusal.TheVariants.{LineLength, LineVerb, LineFields, LineField, BufferShort}
-use Rattle.lines.specs.Fields.{split, join, comma, part}
+use Rattle.units.specs.declared.refusals.Refusal.TheVariants.{BufferShort}
+use Rattle.lines.specs.Fields.{join, comma}
 use Rattle.lines.specs.Forms.{characters, kind_letter, reported_of, reported_word, exempt_word, verb_word, type_word}
 use Rattle.lines.specs.Laws.{ReadsBack, Alone}
-use Rattle.lines.specs.Reading.{asked, entry_in, order_in, parts_read, read}
+use Rattle.lines.specs.Reading.{asked, entry_in, parts_read, read}
 use Rattle.lines.specs.Spelling.{entry_words, order_words, line_of, order_checked}
 use Rattle.lines.specs.declared.orders.Order.{Order}
 use Rattle.lines.specs.declared.orders.Order.TheVariants.{Add, Amend, Delete}
-use Rattle.lines.specs.declared.orders.Verb.{Verb}
 use Rattle.lines.specs.declared.orders.Verb.TheVariants as verbs
 use Rattle.lines.proofs.Inverse.{then_ok, cond_ok}
 use Rattle.lines.proofs.Words.{cond-false, cond-true}

@@ -1,7 +1,7 @@
 -- One part after another is put behind what is written.
-use Rattle.std.proofs.Common.{◌≡◌, ℕ, ◌+◌, ◌≤◌, List, [], ◌∷◌, ◌++◌, length, take, sym, refl, ap, ◌∙◌, append_assoc, append-nil, arith, length-append}
+use Rattle.std.proofs.Common.{◌≡◌, ℕ, ◌≤◌, List, [], ◌∷◌, ◌++◌, length, refl, ap, ◌∙◌, append_assoc, arith, length-append}
 use Rattle.lines.specs.Fields.{comma, join}
-use Rattle.writer.specs.Drafts.{Put, Holds, blank, behind, text}
+use Rattle.writer.specs.Drafts.{Put, Holds, behind, text}
 use Rattle.writer.specs.declared.drafts.Draft.{Draft}
 
 pub put_then : (a b c : Draft) (xs ys : List ℕ) → Put a xs b → Put b ys c → Put a (xs ++ ys) c

@@ -1,14 +1,13 @@
 -- Fields hold characters alone, so that a line of them is cut where they were joined.
-use Rattle.std.proofs.Common.{◌≡◌, ℕ, zero, suc, ◌+◌, ◌^◌, ◌<◌, ◌≤◌, Bool, true, false, cond, not, ◌&&◌, ◌||◌, eqb, leb, ◌⊎◌, List, [], ◌∷◌, ◌++◌, length, get_or, take, Some, None, decimal, Option, sym, refl, ap, ◌∙◌, subst, inl, inr, arith}
+use Rattle.std.proofs.Common.{◌≡◌, ℕ, zero, suc, ◌^◌, ◌<◌, ◌≤◌, Bool, true, false, ◌&&◌, eqb, leb, List, [], ◌∷◌, ◌++◌, length, get_or, decimal, refl, ap, ◌∙◌, arith}
 use Rattle.std.specs.Str.{all_ascii_digits}
 use Rattle.std.proofs.lemmas.Fmt.{digits_decimal}
 use Rattle.std.proofs.lemmas.Bool.Decides.{nat_tests}
-use Rattle.units.specs.Alphabet.{character, space, designator, aerodrome_code}
-use Rattle.units.specs.declared.codes.Designator.{Designator}
+use Rattle.units.specs.Alphabet.{character, aerodrome_code}
 use Rattle.lines.specs.Fields.{split, join, onto, comma}
-use Rattle.lines.specs.Forms.{characters, type_word}
+use Rattle.lines.specs.Forms.{characters}
 use Rattle.lines.proofs.Numbers.{own}
-use Rattle.lines.proofs.Words.{cond-true, cond-false}
+use Rattle.lines.proofs.Words.{cond-false}
 
 pub digits_characters : (bytes : List ℕ) → all_ascii_digits bytes ≡ true → characters bytes ≡ true
 digits_characters [] h = refl

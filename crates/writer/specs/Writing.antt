@@ -1,5 +1,5 @@
 -- What writing a line answers, and what it leaves in the buffer. Assumes nothing.
-use Rattle.std.specs.Prelude.{ℕ, Bool, cond, List, ◌++◌, length, drop, is_ok, Ok, Err, Result, nat_le}
+use Rattle.std.specs.Prelude.{ℕ, cond, List, ◌++◌, length, drop, is_ok, Ok, Err, Result, nat_le}
 use Rattle.units.specs.Steps.{then}
 use Rattle.units.specs.declared.refusals.Refusal.{Refusal}
 use Rattle.units.specs.declared.refusals.Refusal.TheVariants.{BufferShort}

@@ -1,5 +1,4 @@
 use Rattle.std.proofs.Common.{◌≤◌, IfOk, sym, ap, ◌∙◌, subst}
-use Rattle.book.specs.Reading.{contents}
 use Rattle.estimators.specs.Answers.{outcome}
 use Rattle.estimators.specs.BookLaws.{book_laws}
 use Rattle.estimators.specs.Rows.{rows_meaning}

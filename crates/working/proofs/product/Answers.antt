@@ -1,4 +1,4 @@
-use Rattle.std.proofs.Common.{refl, mul-le-mul, arith}
+use Rattle.std.proofs.Common.{refl, mul-le-mul}
 use Rattle.working.proofs.product.Goals as goal
 
 pub returns : goal.returns

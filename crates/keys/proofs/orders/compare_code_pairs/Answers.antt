@@ -1,4 +1,4 @@
-use Rattle.std.proofs.Common.{◌≡◌, length, sym, ap, ◌∙◌, rules}
+use Rattle.std.proofs.Common.{◌≡◌, length, sym, ◌∙◌, rules}
 use Rattle.keys.proofs.Comparing.{compared_append}
 use Rattle.keys.proofs.orders.compare_code_pairs.Goals as goal
 

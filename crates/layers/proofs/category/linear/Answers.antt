@@ -1,4 +1,4 @@
-use Rattle.std.proofs.Common.{◌+◌, ◌*◌, ◌^◌, ◌<◌, ◌≤◌, nat_abs, sym, ap, subst, arith}
+use Rattle.std.proofs.Common.{◌+◌, ◌*◌, ◌≤◌, nat_abs, sym, subst}
 use Rattle.layers.proofs.Signs.{product_fits, sum_fits, sum_is, sum_small}
 use Rattle.layers.proofs.category.linear.Goals as goal
 

@@ -1,8 +1,8 @@
-use Rattle.std.proofs.Common.{◌≡◌, ◌+◌, ◌*◌, ◌^◌, ◌<◌, ◌≤◌, ℤ, nat_abs, sym, ap, ◌∙◌, subst, arith, to_z, of_z}
+use Rattle.std.proofs.Common.{◌≡◌, ◌^◌, ◌<◌, ◌≤◌, ℤ, nat_abs, sym, ◌∙◌, subst, to_z, of_z}
 use lib.Signed.{mag}
 use mir.Syntax.{w128}
 use Rattle.std.proofs.lemmas.Int.{to_z-of_z}
-use Rattle.layers.specs.Equation.{value, linear, coefficient}
+use Rattle.layers.specs.Equation.{value, linear}
 use Rattle.layers.proofs.Sizes.{line_small}
 use Rattle.layers.proofs.category.value_of.Goals as goal
 

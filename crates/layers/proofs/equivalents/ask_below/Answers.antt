@@ -1,4 +1,4 @@
-use Rattle.std.proofs.Common.{◌≡◌, ap, ◌∙◌}
+use Rattle.std.proofs.Common.{ap, ◌∙◌}
 use Rattle.estimators.specs.Answers.{within_limit}
 use Rattle.layers.proofs.equivalents.ask_below.Goals as goal
 

@@ -1,6 +1,6 @@
 use Rattle.std.proofs.Common.{◌≡◌, ℕ, ◌+◌, List, length, set, sym, ap, ◌∙◌, subst, arith}
 use Rattle.std.proofs.lemmas.List.{length-set}
-use Rattle.lines.specs.Cutting.{Cut, CutTo}
+use Rattle.lines.specs.Cutting.{Cut}
 use Rattle.lines.specs.declared.cuts.Span.{Span}
 use Rattle.lines.proofs.cuts.cut.Goals as goal
 use Rattle.lines.proofs.Again.{spelt_again}

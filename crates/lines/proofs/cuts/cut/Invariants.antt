@@ -1,4 +1,3 @@
-use Rattle.std.proofs.Common.{◌≡◌, length}
 use Rattle.lines.specs.Cutting.{CutTo}
 use Rattle.lines.proofs.cuts.cut.Given as goal
 

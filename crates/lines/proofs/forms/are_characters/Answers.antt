@@ -1,4 +1,4 @@
-use Rattle.std.proofs.Common.{◌≡◌, ◌+◌, ◌&&◌, drop, sym, ap, ◌∙◌}
+use Rattle.std.proofs.Common.{◌+◌, ◌&&◌, drop, sym, ap, ◌∙◌}
 use Rattle.lines.specs.Forms.{characters}
 use Rattle.lines.proofs.Words.{characters_more, characters_all}
 use Rattle.lines.proofs.forms.are_characters.Goals as goal

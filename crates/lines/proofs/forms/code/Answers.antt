@@ -1,6 +1,5 @@
 use Rattle.std.proofs.Common.{◌≡◌, ℕ, List, length, Some, sym, ap, ◌∙◌, arith}
 use Rattle.std.proofs.lemmas.Bool.Decides.{nat_tests}
-use Rattle.units.specs.Alphabet.{aerodrome_code}
 use Rattle.units.specs.declared.codes.AerodromeCode.{AerodromeCode}
 use Rattle.lines.proofs.Words.{cond-true, filled_four}
 use Rattle.lines.proofs.forms.code.Goals as goal

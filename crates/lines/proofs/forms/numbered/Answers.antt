@@ -1,4 +1,4 @@
-use Rattle.std.proofs.Common.{◌≡◌, sym, ap, ◌∙◌}
+use Rattle.std.proofs.Common.{sym, ap, ◌∙◌}
 use Rattle.lines.specs.Forms.{plain}
 use Rattle.lines.proofs.Numbers.{number_else, number_parsed}
 use Rattle.lines.proofs.forms.numbered.Goals as goal

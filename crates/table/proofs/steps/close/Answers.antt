@@ -1,5 +1,5 @@
-use Rattle.std.proofs.Common.{◌≡◌, ℕ, ◌+◌, ◌-◌, ◌<◌, ◌≤◌, List, length, set, ap, ◌∙◌, arith}
-use Rattle.table.specs.Changing.{put_in, taken_out}
+use Rattle.std.proofs.Common.{◌≡◌, ℕ, ◌+◌, ◌-◌, ◌≤◌, List, length, set, ap, ◌∙◌, arith}
+use Rattle.table.specs.Changing.{taken_out}
 use Rattle.table.proofs.Contents.{length_put_in}
 use Rattle.table.proofs.Keeping.{in_order_at, remove_in_order, remove_undoes}
 use Rattle.table.proofs.Moving.{moved_down}

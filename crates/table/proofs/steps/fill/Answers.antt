@@ -1,4 +1,4 @@
-use Rattle.std.proofs.Common.{◌≡◌, ◌<◌, length, set, replicate, ap, ◌∙◌, arith}
+use Rattle.std.proofs.Common.{length, set, replicate, ap, ◌∙◌, arith}
 use Rattle.table.proofs.Keeping.{blank_ordered}
 use Rattle.table.proofs.Moving.{filled_more, filled_all}
 use Rattle.table.proofs.steps.fill.Goals as goal

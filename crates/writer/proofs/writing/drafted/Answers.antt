@@ -1,4 +1,4 @@
-use Rattle.std.proofs.Common.{◌≡◌, [], ◌∷◌, decimal, sym, refl, ap, ◌∙◌, arith}
+use Rattle.std.proofs.Common.{[], ◌∷◌, decimal, sym, ap, ◌∙◌, arith}
 use Rattle.lines.specs.Spelling.{line_of, entry_words}
 use Rattle.lines.specs.Forms.{verb_word}
 use Rattle.lines.specs.declared.orders.Verb.TheVariants.{Add, Amend, Delete}
