@@ -3,11 +3,10 @@
 
 usage: python3 tools/respell.py [--list]      at the top of the repository, once, after the kit's port.py
 
-A name is respelled where one of crates/*/specs or crates/*/proofs defines it with a dash, or a file imports something
-under it; goals that the check
-names (loop-i-preserved and the like) and the library's names keep theirs. It stops, and writes nothing, where two
-names would fall together; only a function of src/ may have the name of the definition that mirrors it. Comments stay
-as they are. --list prints old and new names.
+A name is respelled where one of crates/*/specs or crates/*/proofs defines or binds it with a dash, or a file imports
+something under it, and a type where it has a low dash. Goals that the check names (loop-i-preserved and the like) and
+the library's names keep theirs. It stops, and writes nothing, where two names would fall together; only a function of
+src/ may have the name of the definition that mirrors it. Comments stay as they are. --list prints old and new names.
 """
 
 import glob
@@ -20,6 +19,8 @@ WORD = re.compile(r"(?<![A-Za-z0-9_'₀-₉◌-])" + NAME + r"(?![A-Za-z0-9_'◌
 HEAD = re.compile(r"^\s*(?:abbrev |unfoldable )?(?:pub )?(?:abbrev |unfoldable )?(?:(record|data) )?(" + NAME + r")\s*(?:[:({].*)?$")
 FUNCTION = re.compile(r"\bfn (\w+)")
 COMMENT = re.compile(r"(?m)(?:^|(?<=\s))(?:--|//).*$")
+BOUND = re.compile(r"\blet (" + NAME + r")(?=\s*[:=])")
+EQUATION = re.compile(r"(?m)^\s*" + NAME + r"((?: [^=:\n]*)?) =(?=\s)")
 GOAL = re.compile(r":\s*(?:\{[^}]*\}\s*→\s*)?(?:goal|given|need)\.")
 
 
@@ -29,17 +30,24 @@ def sources():
 
 
 def respelled(name):
-    parts = name.split("-")
     if name[0].isupper():
-        return "".join(p[:1].upper() + p[1:] for p in parts)
-    return "_".join(parts)
+        return "".join(p[:1].upper() + p[1:] for p in re.split("[-_]", name))
+    return name.replace("-", "_")
+
+
+def is_old(name):
+    return "-" in name or (name[0].isupper() and "_" in name)
 
 
 def defined(path, text):
-    """The dashed names that a file of specs/ or proofs/ defines."""
+    """The names that a file of specs/ or proofs/ defines or binds."""
+    text = COMMENT.sub("", text)
+    yield from BOUND.findall(text)
+    for bound in EQUATION.findall(text):
+        yield from (w for w in WORD.findall(bound) if w[0].islower())
     for line in text.splitlines():
         at = HEAD.match(line)
-        if not at or "-" not in at[2] or GOAL.search(line):
+        if not at or GOAL.search(line):
             continue
         if at[1] or re.match(r"^\s*(?:abbrev |unfoldable |pub )*" + re.escape(at[2]) + r"\s*[:({]", line):
             yield at[2]
@@ -80,7 +88,7 @@ def main():
         for word in found:
             words.setdefault(word, set()).add(path)
         for name in [*renamed(text), *(defined(path, text) if path.endswith(".antt") else [])]:
-            if "-" in name:
+            if is_old(name):
                 names[name] = respelled(name)
     names = {old: new for old, new in names.items() if old not in library}
     together = []

@@ -15,7 +15,7 @@ use Rattle.book.specs.Bytes.{u16_at, items, front, find, Rising}
 use Rattle.book.specs.Check.{sound, spelled}
 use Rattle.book.specs.Contents.{bind, four, row_in, row_of, row_key, row_place, aerodrome_in, aerodrome_of, aerodrome_place}
 use Rattle.book.specs.Items.{tier_of, aerodrome_wrong}
-use Rattle.book.specs.Promise.{RowReads, Row_is, AerodromeReads, AerodromeIs, Promises}
+use Rattle.book.specs.Promise.{RowReads, RowIs, AerodromeReads, AerodromeIs, Promises}
 use Rattle.book.specs.Sections.{Sections}
 use Rattle.book.specs.declared.format.Aerodrome.{Aerodrome}
 use Rattle.book.specs.declared.format.Row.{Row}
@@ -115,7 +115,7 @@ module _ (s : Sections) (ok : sound s ≡ true) where
   rise_rows i j lt q r qi rj =
       (λ n. earlier (key_is i q qi n) (key_is j r rj n)) ∙ rows_rise s ok i j lt (row_below j r rj)
 
-  found_row : (d : Designator) (k : Kind) (i : ℕ) → row_place s d k ≡ Some i → Row_is s d k i
+  found_row : (d : Designator) (k : Kind) (i : ℕ) → row_place s d k ≡ Some i → RowIs s d k i
   unfolding find
   found_row d k i found =
       let at = first_some (λ n. same (front 104 5 s.rows n) (row_key d k)) (items 104 s.rows) i found in
@@ -126,7 +126,7 @@ module _ (s : Sections) (ok : sound s ≡ true) where
         key = key_is i read.row read.is ∙ same_equal (front 104 5 s.rows i) (row_key d k) at.passes;
       }
 
-  find_row : (d : Designator) (k : Kind) (i : ℕ) → Row_is s d k i → row_place s d k ≡ Some i
+  find_row : (d : Designator) (k : Kind) (i : ℕ) → RowIs s d k i → row_place s d k ≡ Some i
   find_row d k i there =
       let lt = row_below i there.row there.is in
       let key : front 104 5 s.rows i ≡ row_key d k = sym (key_is i there.row there.is) ∙ there.key in
@@ -166,8 +166,8 @@ module _ (s : Sections) (ok : sound s ≡ true) where
       let read = read_aerodrome i lt in
       let same : a ≡ read.aerodrome = cc (is, read.is) in
       let long = aerodrome_long i lt in
-      let four-of : take 4 bs ≡ front 8 4 s.aerodromes i = take-take 4 8 (drop (8 * i) s.aerodromes) (omega arith) in
-      ap (λ x. four x.code.bytes) same ∙ sym (take_four bs (omega arith)) ∙ four-of
+      let four_of : take 4 bs ≡ front 8 4 s.aerodromes i = take-take 4 8 (drop (8 * i) s.aerodromes) (omega arith) in
+      ap (λ x. four x.code.bytes) same ∙ sym (take_four bs (omega arith)) ∙ four_of
 
   rise_aerodromes : (i j : ℕ) → i < j → (a b : Aerodrome) → aerodrome_of s i ≡ Some a → aerodrome_of s j ≡ Some b → earlier (four a.code.bytes) (four b.code.bytes) ≡ true
   rise_aerodromes i j lt a b ai bj =

@@ -161,8 +161,8 @@ pub record Right (distances times : ℕ) (r : List ℕ) : Type 0 where
 right : (distances times : ℕ) (r : List ℕ) → row_wrong distances times r ≡ false → Right distances times r
 right distances times r ok =
     let last = or_parts _ (is_some (first (fuel_wrong r) 24)) ok in
-    let zero-byte = or_parts _ (not (eqb (get_or r 7 0) 0)) last.0 in
-    let count = or_parts _ (count_wrong distances times r) zero-byte.0 in
+    let zero_byte = or_parts _ (not (eqb (get_or r 7 0) 0)) last.0 in
+    let count = or_parts _ (count_wrong distances times r) zero_byte.0 in
     let tier = or_parts _ (not (is_some (tier_of (get_or r 5 0)))) count.0 in
     let head = or_parts (not (designator (take 4 r))) (not (is_some (kind_of (get_or r 4 0)))) tier.0 in
     record {

@@ -34,7 +34,7 @@ pub record RowReads (s : Sections) (i : ℕ) : Type 0 where
   pub fuels : Fuels s row.kind i
 
 -- row i is that of a type and kind
-pub record Row_is (s : Sections) (d : Designator) (k : Kind) (i : ℕ) : Type 0 where
+pub record RowIs (s : Sections) (d : Designator) (k : Kind) (i : ℕ) : Type 0 where
   pub row : Row
   pub is : row_of s i ≡ Some row
   pub key : row_key row.designator row.kind ≡ row_key d k
@@ -58,8 +58,8 @@ pub record Promises (s : Sections) : Type 0 where
   pub rows_read : (i : ℕ) → i < items 104 s.rows → RowReads s i
   pub rows_rise : (i j : ℕ) → i < j → (q r : Row) → row_of s i ≡ Some q → row_of s j ≡ Some r → earlier (row_key q.designator q.kind) (row_key r.designator r.kind) ≡ true
   -- a type and kind is found exactly where its row is
-  pub row_found : (d : Designator) (k : Kind) (i : ℕ) → row_place s d k ≡ Some i → Row_is s d k i
-  pub row_finds : (d : Designator) (k : Kind) (i : ℕ) → Row_is s d k i → row_place s d k ≡ Some i
+  pub row_found : (d : Designator) (k : Kind) (i : ℕ) → row_place s d k ≡ Some i → RowIs s d k i
+  pub row_finds : (d : Designator) (k : Kind) (i : ℕ) → RowIs s d k i → row_place s d k ≡ Some i
   -- every aerodrome reads back, and the aerodromes strictly rise by code
   pub aerodromes_read : (i : ℕ) → i < items 8 s.aerodromes → AerodromeReads s i
   pub aerodromes_rise : (i j : ℕ) → i < j → (a b : Aerodrome) → aerodrome_of s i ≡ Some a → aerodrome_of s j ≡ Some b → earlier (four a.code.bytes) (four b.code.bytes) ≡ true

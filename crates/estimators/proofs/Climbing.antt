@@ -93,27 +93,27 @@ module _ (s : Sections) (ok : sound s ≡ true) (d : Designator) (k : Kind) (i :
   segments_climb x y g h le (Some m) (Some n) sa sb ga hb =
       let at = first_some (reaches (column_of s k) x) (fuel_count_of s i - 1) m sa in
       let bt = first_some (reaches (column_of s k) y) (fuel_count_of s i - 1) n sb in
-      let is-g : on_line (column_of s k m) (column_of s k (m + 1)) (fuel_of s i m) (fuel_of s i (m + 1)) x ≡ g = cc ga in
-      let is-h : on_line (column_of s k n) (column_of s k (n + 1)) (fuel_of s i n) (fuel_of s i (n + 1)) y ≡ h = cc hb in
-      let m-in : m + 1 < fuel_count_of s i = omega (arith, at.high) in
-      let n-in : n + 1 < fuel_count_of s i = omega (arith, bt.high) in
-      let x-in = leb-true x _ at.passes in
-      let y-in = leb-true y _ bt.passes in
+      let is_g : on_line (column_of s k m) (column_of s k (m + 1)) (fuel_of s i m) (fuel_of s i (m + 1)) x ≡ g = cc ga in
+      let is_h : on_line (column_of s k n) (column_of s k (n + 1)) (fuel_of s i n) (fuel_of s i (n + 1)) y ≡ h = cc hb in
+      let m_in : m + 1 < fuel_count_of s i = omega (arith, at.high) in
+      let n_in : n + 1 < fuel_count_of s i = omega (arith, bt.high) in
+      let x_in = leb-true x _ at.passes in
+      let y_in = leb-true y _ bt.passes in
       ⊎_elim
       (λ same.
-      let both = on_line_mono (column_of s k n) (column_of s k (n + 1)) (fuel_of s i n) (fuel_of s i (n + 1)) (columns_up n n-in) (fuels_up n n-in) x y le in
-      let is-g' : on_line (column_of s k n) (column_of s k (n + 1)) (fuel_of s i n) (fuel_of s i (n + 1)) x ≡ g =
-      subst (λ j. on_line (column_of s k j) (column_of s k (j + 1)) (fuel_of s i j) (fuel_of s i (j + 1)) x ≡ g) same is-g in
-      subst (λ v. g ≤ v) is-h (subst (λ v. v ≤ on_line (column_of s k n) (column_of s k (n + 1)) (fuel_of s i n) (fuel_of s i (n + 1)) y) is-g' both))
+      let both = on_line_mono (column_of s k n) (column_of s k (n + 1)) (fuel_of s i n) (fuel_of s i (n + 1)) (columns_up n n_in) (fuels_up n n_in) x y le in
+      let is_g' : on_line (column_of s k n) (column_of s k (n + 1)) (fuel_of s i n) (fuel_of s i (n + 1)) x ≡ g =
+      subst (λ j. on_line (column_of s k j) (column_of s k (j + 1)) (fuel_of s i j) (fuel_of s i (j + 1)) x ≡ g) same is_g in
+      subst (λ v. g ≤ v) is_h (subst (λ v. v ≤ on_line (column_of s k n) (column_of s k (n + 1)) (fuel_of s i n) (fuel_of s i (n + 1)) y) is_g' both))
       (⊎_elim
       (λ before.
-      let most = on_line_le (column_of s k m) (column_of s k (m + 1)) (fuel_of s i m) (fuel_of s i (m + 1)) x (columns_up m m-in) x-in (fuels_up m m-in) in
-      let least = on_line_ge (column_of s k n) (column_of s k (n + 1)) (fuel_of s i n) (fuel_of s i (n + 1)) y (columns_up n n-in) y-in (fuels_up n n-in) in
+      let most = on_line_le (column_of s k m) (column_of s k (m + 1)) (fuel_of s i m) (fuel_of s i (m + 1)) x (columns_up m m_in) x_in (fuels_up m m_in) in
+      let least = on_line_ge (column_of s k n) (column_of s k (n + 1)) (fuel_of s i n) (fuel_of s i (n + 1)) y (columns_up n n_in) y_in (fuels_up n n_in) in
       let up = fuels_mono (m + 1) n (omega arith) (omega arith) in
-      let g-most = subst (λ v. v ≤ 1000 * fuel_of s i (m + 1)) is-g most in
-      let h-least = subst (λ v. 1000 * fuel_of s i n ≤ v) is-h least in
+      let g_most = subst (λ v. v ≤ 1000 * fuel_of s i (m + 1)) is_g most in
+      let h_least = subst (λ v. 1000 * fuel_of s i n ≤ v) is_h least in
       omega arith)
-      (λ after. absurd (let no-x = leb-false x _ (at.before n (omega arith) after) in omega arith)))
+      (λ after. absurd (let no_x = leb-false x _ (at.before n (omega arith) after) in omega arith)))
       (cases_order m n)
 
 rows_climb : (s : Sections) (d : Designator) (k : Kind) (o : Option ℕ) → sound s ≡ true → row_place s d k ≡ o → (x y g h : ℕ) → x ≤ y → row_answer s (of k x) o ≡ Fuel g → row_answer s (of k y) o ≡ Fuel h → g ≤ h

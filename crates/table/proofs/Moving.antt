@@ -13,7 +13,7 @@ module _ {R : Type 0} (xs : List R) (n p : ℕ) (x : R) where
       let front = take p xs in
       let block = take (n - p) (drop p xs) in
       let rest = drop (n + 1) xs in
-      let in-front : take p (take n xs) ≡ front = take-take p n xs le in
+      let in_front : take p (take n xs) ≡ front = take-take p n xs le in
       let in_block : drop p (take n xs) ≡ block = sym (between_is xs p n) in
       let past : p + 1 + (n - p) ≡ n + 1 = omega arith in
       let pasted : paste xs (p + 1) (drop p xs) (n - p) ≡ front ++ get_or xs p x ∷ (block ++ rest) =
@@ -23,7 +23,7 @@ module _ {R : Type 0} (xs : List R) (n p : ℕ) (x : R) where
       ap (λ l. set l p x) pasted
       ∙ set_at front (get_or xs p x) (block ++ rest) x p (length-take-le p xs (omega arith))
       ∙ sym (append_assoc front (x ∷ block) rest)
-      ∙ sym (λ i. (in-front i ++ x ∷ in_block i) ++ rest)
+      ∙ sym (λ i. (in_front i ++ x ∷ in_block i) ++ rest)
 
   -- the records after p moved down, and x written at the last of their places
   pub moved_down : p < n → n ≤ length xs → set (paste xs p (drop (p + 1) xs) (n - (p + 1))) (n - 1) x ≡ taken_out x xs n p
@@ -32,7 +32,7 @@ module _ {R : Type 0} (xs : List R) (n p : ℕ) (x : R) where
       let block = take (n - (p + 1)) (drop (p + 1) xs) in
       let next : p + 1 ≡ suc p = omega arith in
       let last : n - 1 + 1 ≡ n = omega arith in
-      let in-front : take p (take n xs) ≡ front = take-take p n xs (omega arith) in
+      let in_front : take p (take n xs) ≡ front = take-take p n xs (omega arith) in
       let in_block : drop (suc p) (take n xs) ≡ block = sym (between_is xs (suc p) n) ∙ ap (λ k. take (n - k) (drop k xs)) (sym next) in
       let past : p + (n - (p + 1)) ≡ n - 1 = omega arith in
       let tail : drop (n - 1) xs ≡ get_or xs (n - 1) x ∷ drop n xs =
@@ -42,7 +42,7 @@ module _ {R : Type 0} (xs : List R) (n p : ℕ) (x : R) where
       let long : length (front ++ block) ≡ n - 1 = simp (length-append, length-take, length-drop) (omega arith) in
       ap (λ l. set l (n - 1) x) pasted
       ∙ set_at (front ++ block) (get_or xs (n - 1) x) (drop n xs) x (n - 1) long
-      ∙ sym (λ i. (in-front i ++ in_block i) ++ x ∷ drop n xs)
+      ∙ sym (λ i. (in_front i ++ in_block i) ++ x ∷ drop n xs)
 
 -- a loop that writes x at each place
 pub filled_more : {R : Type 0} (xs : List R) (i : ℕ) (x : R) → i < length xs → set (replicate i x ++ drop i xs) i x ≡ replicate (i + 1) x ++ drop (i + 1) xs

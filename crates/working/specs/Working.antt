@@ -51,10 +51,10 @@ marks_of None answer flights = record { gap = true; far = false; unchecked = fal
 marks_of (Some kilograms) answer flights = held_against kilograms answer flights
 
 abbrev pub worked_out : (Designator → Measure → Answer) → (AerodromeCode → Option ℕ) → Entry → Result WorkedEntry Refusal
-worked_out estimate state-of entry =
+worked_out estimate state_of entry =
     then (taken entry) (λ e.
-    then (ok_or (state-of e.departure) DepartureUnknown) (λ from.
-    then (ok_or (state-of e.arrival) ArrivalUnknown) (λ to.
+    then (ok_or (state_of e.departure) DepartureUnknown) (λ from.
+    then (ok_or (state_of e.arrival) ArrivalUnknown) (λ to.
     then (fuel_of e.reported (estimate e.designator e.measure) e.flights) (λ fuel.
     Ok (record {
       entry = e;
