@@ -7,21 +7,18 @@ use aerodromes::prefix::Prefix;
 use aerodromes::prefix_list::Prefixes;
 use book::checked::Book;
 use units::codes::AerodromeCode;
-use units::refusals::Refusal;
+use units::refusals::{Fault, Refusal};
 
 fn state<D: Directory>(directory: &D, code: &[u8; 4]) -> Option<u16> {
     directory.state_of(AerodromeCode { bytes: *code })
 }
 
-// The letter and number of a refusal, or a dot and 0.
-fn named(answer: Result<(), Refusal>) -> (char, u32) {
-    match answer {
-        Ok(()) => ('.', 0),
-        Err(refusal) => {
-            let fault = refusal.fault();
-            (fault.layer.letter(), fault.number)
-        }
-    }
+// What was answered; a refusal by its letter and number.
+fn named(answer: Result<(), Refusal>) -> Result<(), (char, u32)> {
+    answer.map_err(|refusal| {
+        let fault = Fault::from(refusal);
+        (char::from(fault.layer), fault.number)
+    })
 }
 
 fn custom(code: &[u8; 4], state: u16) -> CustomAerodrome {
@@ -42,8 +39,8 @@ fn custom_aerodromes_come_before_the_book(rt: HostRuntime) {
         ),
         (Some(1), Some(2), None)
     );
-    assert_eq!(rt; named(directory.add(custom(b"BBBB", 193))), ('.', 0));
-    assert_eq!(rt; named(directory.add(custom(b"CCCC", 7))), ('.', 0));
+    assert_eq!(rt; named(directory.add(custom(b"BBBB", 193))), Ok(()));
+    assert_eq!(rt; named(directory.add(custom(b"CCCC", 7))), Ok(()));
     assert_eq!(rt;
         (
             state(&directory, b"AAAA"),
@@ -57,16 +54,16 @@ fn custom_aerodromes_come_before_the_book(rt: HostRuntime) {
 #[test]
 fn custom_aerodromes_are_checked_in_order(rt: HostRuntime) {
     let mut directory = CustomAerodromes::new(Book::of(&EXAMPLE));
-    assert_eq!(rt; named(directory.add(custom(b"ccCC", 0))), ('D', 9));
-    assert_eq!(rt; named(directory.add(custom(b"CCCC", 0))), ('D', 11));
-    assert_eq!(rt; named(directory.add(custom(b"CCCC", 194))), ('D', 11));
-    assert_eq!(rt; named(directory.add(custom(b"CCCC", 1))), ('.', 0));
-    assert_eq!(rt; named(directory.add(custom(b"CCCC", 0))), ('D', 10));
+    assert_eq!(rt; named(directory.add(custom(b"ccCC", 0))), Err(('D', 9)));
+    assert_eq!(rt; named(directory.add(custom(b"CCCC", 0))), Err(('D', 11)));
+    assert_eq!(rt; named(directory.add(custom(b"CCCC", 194))), Err(('D', 11)));
+    assert_eq!(rt; named(directory.add(custom(b"CCCC", 1))), Ok(()));
+    assert_eq!(rt; named(directory.add(custom(b"CCCC", 0))), Err(('D', 10)));
     for i in 0..63u8 {
         let code = [b'X', b'A' + i / 10, b'0' + i % 10, b'X'];
-        assert_eq!(rt; named(directory.add(custom(&code, 1))), ('.', 0));
+        assert_eq!(rt; named(directory.add(custom(&code, 1))), Ok(()));
     }
-    assert_eq!(rt; named(directory.add(custom(b"cccc", 0))), ('D', 8));
+    assert_eq!(rt; named(directory.add(custom(b"cccc", 0))), Err(('D', 8)));
 }
 
 #[test]
@@ -78,7 +75,7 @@ fn prefixes_are_the_first_two_characters(rt: HostRuntime) {
             second: b'G',
             state: 9,
         })),
-        ('.', 0)
+        Ok(())
     );
     assert_eq!(rt;
         named(prefixes.add(Prefix {
@@ -86,7 +83,7 @@ fn prefixes_are_the_first_two_characters(rt: HostRuntime) {
             second: b'G',
             state: 8,
         })),
-        ('D', 10)
+        Err(('D', 10))
     );
     assert_eq!(rt;
         named(prefixes.add(Prefix {
@@ -94,7 +91,7 @@ fn prefixes_are_the_first_two_characters(rt: HostRuntime) {
             second: b'G',
             state: 8,
         })),
-        ('D', 9)
+        Err(('D', 9))
     );
     assert_eq!(rt;
         named(prefixes.add(Prefix {
@@ -102,7 +99,7 @@ fn prefixes_are_the_first_two_characters(rt: HostRuntime) {
             second: b' ',
             state: 8,
         })),
-        ('D', 9)
+        Err(('D', 9))
     );
     assert_eq!(rt;
         named(prefixes.add(Prefix {
@@ -110,7 +107,7 @@ fn prefixes_are_the_first_two_characters(rt: HostRuntime) {
             second: b'H',
             state: 0,
         })),
-        ('D', 11)
+        Err(('D', 11))
     );
     assert_eq!(rt;
         (
@@ -131,7 +128,7 @@ fn the_prefix_list_has_256_places(rt: HostRuntime) {
             second: b'A' + i % 16,
             state: 1,
         };
-        assert_eq!(rt; named(prefixes.add(item)), ('.', 0));
+        assert_eq!(rt; named(prefixes.add(item)), Ok(()));
     }
     assert_eq!(rt;
         named(prefixes.add(Prefix {
@@ -139,7 +136,7 @@ fn the_prefix_list_has_256_places(rt: HostRuntime) {
             second: b'0',
             state: 1,
         })),
-        ('D', 8)
+        Err(('D', 8))
     );
     assert_eq!(rt; state(&prefixes, b"PPAA"), Some(1));
 }

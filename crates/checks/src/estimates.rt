@@ -4,14 +4,13 @@ use book::checked::Book;
 use estimators::asking::Estimator;
 use units::codes::Designator;
 use units::measures::{Kind, Measure};
+use units::refusals::{Fault, Refusal};
 
 // The fuel in grams, or the refusal's number.
 fn asked(book: &Book<'_>, designator: &[u8; 4], kind: Kind, amount: u32) -> Result<u64, u32> {
     let designator = Designator { bytes: *designator };
-    match book.ask(designator, Measure { kind, amount }).outcome() {
-        Ok(fuel) => Ok(fuel),
-        Err(refusal) => Err(refusal.fault().number),
-    }
+    book.ask(designator, Measure { kind, amount })
+        .map_err(|none| Fault::from(Refusal::from(none)).number)
 }
 
 const ON_GL7T: [(u32, u64); 9] = [

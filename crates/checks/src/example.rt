@@ -1,5 +1,7 @@
 // The example book: 2023, 17 distance columns, row GL7T, aerodromes AAAA in State 1 and BBBB in State 2.
 use book::checks::check_book;
+use book::format::Header;
+use units::refusals::{Fault, Refusal};
 
 pub(crate) const EXAMPLE: [u8; 192] = [
     231, 7, 17, 0, 0, 0, 1, 0, 2, 0, 2, 0, 36, 0, 0, 0, 70, 0, 0, 0, 70, 0, 0, 0, 174, 0, 0, 0,
@@ -12,15 +14,19 @@ pub(crate) const EXAMPLE: [u8; 192] = [
     66, 2, 0, 0, 0, 1, 1,
 ];
 
-// The number and place of the refusal, or 0 and 0.
-pub(crate) fn verdict(bytes: &[u8]) -> (u32, usize) {
-    match check_book(bytes) {
-        Ok(_) => (0, 0),
+// What was answered; a refusal by its number and place.
+pub(crate) fn told<T: Drop>(answer: Result<T, Refusal>) -> Result<T, (u32, usize)> {
+    match answer {
+        Ok(value) => Ok(value),
         Err(refusal) => {
-            let fault = refusal.fault();
-            (fault.number, fault.place)
+            let fault = Fault::from(refusal);
+            Err((fault.number, fault.place))
         }
     }
+}
+
+pub(crate) fn verdict(bytes: &[u8]) -> Result<Header, (u32, usize)> {
+    told(check_book(bytes))
 }
 
 // The example with one byte changed.

@@ -7,26 +7,19 @@ use layers::equivalents::Equivalents;
 use layers::items::{CustomType, Equivalent};
 use units::codes::Designator;
 use units::measures::{Kind, Measure};
-use units::refusals::Refusal;
+use units::refusals::{Fault, Refusal};
 
 // The fuel in grams, or the refusal's number.
 fn asked<E: Estimator>(estimator: &E, name: &[u8; 4], kind: Kind, amount: u32) -> Result<u64, u32> {
     let designator = Designator { bytes: *name };
-    match estimator
+    estimator
         .ask(designator, Measure { kind, amount })
-        .outcome()
-    {
-        Ok(fuel) => Ok(fuel),
-        Err(refusal) => Err(refusal.fault().number),
-    }
+        .map_err(|none| Fault::from(Refusal::from(none)).number)
 }
 
-// The number of a refusal, or 0.
-fn number(answer: Result<(), Refusal>) -> u32 {
-    match answer {
-        Ok(()) => 0,
-        Err(refusal) => refusal.fault().number,
-    }
+// What was answered; a refusal by its number.
+fn number(answer: Result<(), Refusal>) -> Result<(), u32> {
+    answer.map_err(|refusal| Fault::from(refusal).number)
 }
 
 fn equivalent(name: &[u8; 4], named: &[u8; 4], p: u32, q: u32) -> Equivalent {
@@ -49,13 +42,13 @@ fn custom(name: &[u8; 4], category: u32, mass: u32) -> CustomType {
 #[test]
 fn equivalents_scale_the_named_type(rt: HostRuntime) {
     let mut layer = Equivalents::new(Book::of(&EXAMPLE));
-    assert_eq!(rt; number(layer.add(equivalent(b"AT3 ", b"GL7T", 1, 3))), 0);
+    assert_eq!(rt; number(layer.add(equivalent(b"AT3 ", b"GL7T", 1, 3))), Ok(()));
     assert_eq!(rt;
         number(layer.add(equivalent(b"BIG ", b"GL7T", 10_000, 1))),
-        0
+        Ok(())
     );
-    assert_eq!(rt; number(layer.add(equivalent(b"AB  ", b"AT3 ", 1, 1))), 0);
-    assert_eq!(rt; number(layer.add(equivalent(b"GL7T", b"AT3 ", 2, 1))), 0);
+    assert_eq!(rt; number(layer.add(equivalent(b"AB  ", b"AT3 ", 1, 1))), Ok(()));
+    assert_eq!(rt; number(layer.add(equivalent(b"GL7T", b"AT3 ", 2, 1))), Ok(()));
     assert_eq!(rt; asked(&layer, b"AT3 ", Kind::Distance, 750), Ok(667_333));
     assert_eq!(rt; asked(&layer, b"AT3 ", Kind::Distance, 10_001), Err(23));
     assert_eq!(rt; asked(&layer, b"AT3 ", Kind::Time, 60), Err(22));
@@ -68,46 +61,46 @@ fn equivalents_scale_the_named_type(rt: HostRuntime) {
 #[test]
 fn equivalents_are_checked_in_order(rt: HostRuntime) {
     let mut layer = Equivalents::new(Book::of(&EXAMPLE));
-    assert_eq!(rt; number(layer.add(equivalent(b"at3 ", b"GL7T", 0, 0))), 9);
-    assert_eq!(rt; number(layer.add(equivalent(b"AT3 ", b"gl7t", 0, 0))), 9);
-    assert_eq!(rt; number(layer.add(equivalent(b"AT3 ", b"GL7T", 0, 1))), 11);
+    assert_eq!(rt; number(layer.add(equivalent(b"at3 ", b"GL7T", 0, 0))), Err(9));
+    assert_eq!(rt; number(layer.add(equivalent(b"AT3 ", b"gl7t", 0, 0))), Err(9));
+    assert_eq!(rt; number(layer.add(equivalent(b"AT3 ", b"GL7T", 0, 1))), Err(11));
     assert_eq!(rt;
         number(layer.add(equivalent(b"AT3 ", b"GL7T", 1, 10_001))),
-        11
+        Err(11)
     );
     assert_eq!(rt;
         number(layer.add(equivalent(b"AT3 ", b"GL7T", 10_000, 1))),
-        0
+        Ok(())
     );
-    assert_eq!(rt; number(layer.add(equivalent(b"AT3 ", b"GL7T", 0, 0))), 10);
+    assert_eq!(rt; number(layer.add(equivalent(b"AT3 ", b"GL7T", 0, 0))), Err(10));
     for i in 0..63u8 {
         let name = [b'B', b'A' + i / 10, b'0' + i % 10, b' '];
-        assert_eq!(rt; number(layer.add(equivalent(&name, b"GL7T", 1, 1))), 0);
+        assert_eq!(rt; number(layer.add(equivalent(&name, b"GL7T", 1, 1))), Ok(()));
     }
-    assert_eq!(rt; number(layer.add(equivalent(b"ZZZZ", b"GL7T", 1, 1))), 8);
-    assert_eq!(rt; number(layer.add(equivalent(b"at3 ", b"GL7T", 0, 0))), 8);
+    assert_eq!(rt; number(layer.add(equivalent(b"ZZZZ", b"GL7T", 1, 1))), Err(8));
+    assert_eq!(rt; number(layer.add(equivalent(b"at3 ", b"GL7T", 0, 0))), Err(8));
 }
 
-// Category, mass, and the refusal's number.
-const MASSES: [(u32, u32, u32); 18] = [
-    (1, 135_999, 11),
-    (1, 136_000, 0),
-    (1, 640_000, 0),
-    (1, 640_001, 11),
-    (2, 59_999, 11),
-    (2, 60_000, 0),
-    (2, 135_999, 0),
-    (2, 136_000, 11),
-    (3, 5_700, 11),
-    (3, 5_701, 0),
-    (3, 59_999, 0),
-    (3, 60_000, 11),
-    (4, 5_700, 11),
-    (4, 5_701, 0),
-    (4, 640_000, 0),
-    (4, 640_001, 11),
-    (0, 6_000, 11),
-    (5, 6_000, 11),
+// Category, mass, and what the list answers.
+const MASSES: [(u32, u32, Result<(), u32>); 18] = [
+    (1, 135_999, Err(11)),
+    (1, 136_000, Ok(())),
+    (1, 640_000, Ok(())),
+    (1, 640_001, Err(11)),
+    (2, 59_999, Err(11)),
+    (2, 60_000, Ok(())),
+    (2, 135_999, Ok(())),
+    (2, 136_000, Err(11)),
+    (3, 5_700, Err(11)),
+    (3, 5_701, Ok(())),
+    (3, 59_999, Ok(())),
+    (3, 60_000, Err(11)),
+    (4, 5_700, Err(11)),
+    (4, 5_701, Ok(())),
+    (4, 640_000, Ok(())),
+    (4, 640_001, Err(11)),
+    (0, 6_000, Err(11)),
+    (5, 6_000, Err(11)),
 ];
 
 #[test]
@@ -121,27 +114,26 @@ fn masses_belong_to_their_category(rt: HostRuntime) {
     }
 }
 
-// Category, mass, whether time, amount, and the answer.
-const EQUATION: [(u32, u32, bool, u32, Result<u64, u32>); 11] = [
-    (4, 20_000, false, 500, Ok(900_760)),
-    (1, 640_000, true, 60, Ok(0)),
-    (1, 640_000, true, 1_460, Err(23)),
-    (1, 640_000, true, 1_500, Err(23)),
-    (2, 61_324, true, 0, Ok(9)),
-    (2, 61_325, true, 0, Ok(0)),
-    (2, 60_000, true, 0, Ok(16_222)),
-    (4, 640_000, false, 12_592, Err(23)),
-    (4, 640_000, true, 1_406, Err(23)),
-    (3, 5_701, false, 0, Ok(267_203)),
-    (1, 136_000, false, 0, Ok(368_925)),
+// Category, mass, kind, amount, and the answer.
+const EQUATION: [(u32, u32, Kind, u32, Result<u64, u32>); 11] = [
+    (4, 20_000, Kind::Distance, 500, Ok(900_760)),
+    (1, 640_000, Kind::Time, 60, Ok(0)),
+    (1, 640_000, Kind::Time, 1_460, Err(23)),
+    (1, 640_000, Kind::Time, 1_500, Err(23)),
+    (2, 61_324, Kind::Time, 0, Ok(9)),
+    (2, 61_325, Kind::Time, 0, Ok(0)),
+    (2, 60_000, Kind::Time, 0, Ok(16_222)),
+    (4, 640_000, Kind::Distance, 12_592, Err(23)),
+    (4, 640_000, Kind::Time, 1_406, Err(23)),
+    (3, 5_701, Kind::Distance, 0, Ok(267_203)),
+    (1, 136_000, Kind::Distance, 0, Ok(368_925)),
 ];
 
 #[test]
 fn the_equation_is_exact(rt: HostRuntime) {
-    for (category, mass, timed, amount, expected) in EQUATION {
+    for (category, mass, kind, amount, expected) in EQUATION {
         let mut layer = CustomTypes::new(Book::of(&EXAMPLE));
-        assert_eq!(rt; number(layer.add(custom(b"C1  ", category, mass))), 0);
-        let kind = if timed { Kind::Time } else { Kind::Distance };
+        assert_eq!(rt; number(layer.add(custom(b"C1  ", category, mass))), Ok(()));
         assert_eq!(rt; asked(&layer, b"C1  ", kind, amount), expected);
     }
 }
@@ -149,8 +141,8 @@ fn the_equation_is_exact(rt: HostRuntime) {
 #[test]
 fn the_last_answered_amounts(rt: HostRuntime) {
     let mut layer = CustomTypes::new(Book::of(&EXAMPLE));
-    assert_eq!(rt; number(layer.add(custom(b"C1  ", 1, 640_000))), 0);
-    assert_eq!(rt; number(layer.add(custom(b"C4  ", 4, 640_000))), 0);
+    assert_eq!(rt; number(layer.add(custom(b"C1  ", 1, 640_000))), Ok(()));
+    assert_eq!(rt; number(layer.add(custom(b"C4  ", 4, 640_000))), Ok(()));
     assert!(rt; asked(&layer, b"C1  ", Kind::Time, 1_459).is_ok());
     assert!(rt; asked(&layer, b"C4  ", Kind::Distance, 12_591).is_ok());
     assert!(rt; asked(&layer, b"C4  ", Kind::Time, 1_405).is_ok());
@@ -159,7 +151,7 @@ fn the_last_answered_amounts(rt: HostRuntime) {
 #[test]
 fn the_book_comes_before_the_equation(rt: HostRuntime) {
     let mut layer = CustomTypes::new(Equivalents::new(Book::of(&EXAMPLE)));
-    assert_eq!(rt; number(layer.add(custom(b"GL7T", 4, 20_000))), 0);
+    assert_eq!(rt; number(layer.add(custom(b"GL7T", 4, 20_000))), Ok(()));
     assert_eq!(rt; asked(&layer, b"GL7T", Kind::Distance, 750), Ok(2_002_000));
     assert_eq!(rt; asked(&layer, b"GL7T", Kind::Distance, 10_001), Err(23));
     assert!(rt; asked(&layer, b"GL7T", Kind::Time, 60).is_ok());

@@ -2,7 +2,7 @@
 use units::amounts::{co2, nearest};
 use units::codes::{is_aerodrome_code, is_designator, is_state};
 use units::measures::{Kind, Measure};
-use units::refusals::{ListOwner, Refusal};
+use units::refusals::{Fault, ListOwner, Refusal};
 
 #[test]
 fn designators_have_two_to_four_characters(rt: HostRuntime) {
@@ -86,31 +86,17 @@ fn co2_is_316_times_the_fuel(rt: HostRuntime) {
     assert_eq!(rt; co2(2_002_000), 632_632_000);
 }
 
+// The letter, number and place of a refusal.
+fn told(refusal: Refusal) -> (char, u32, usize) {
+    let fault = Fault::from(refusal);
+    (char::from(fault.layer), fault.number, fault.place)
+}
+
 #[test]
 fn refusals_have_their_names(rt: HostRuntime) {
-    let fault = Refusal::BookRow(7).fault();
-    assert_eq!(rt;
-        (fault.layer.letter(), fault.number, fault.place),
-        ('B', 5, 7)
-    );
-    let fault = Refusal::ListFull(ListOwner::OfDirectory).fault();
-    assert_eq!(rt;
-        (fault.layer.letter(), fault.number, fault.place),
-        ('D', 8, 0)
-    );
-    let fault = Refusal::BeyondModel.fault();
-    assert_eq!(rt;
-        (fault.layer.letter(), fault.number, fault.place),
-        ('E', 23, 7)
-    );
-    let fault = Refusal::OutOfRange(3).fault();
-    assert_eq!(rt;
-        (fault.layer.letter(), fault.number, fault.place),
-        ('L', 18, 3)
-    );
-    let fault = Refusal::OpenQuery.fault();
-    assert_eq!(rt;
-        (fault.layer.letter(), fault.number, fault.place),
-        ('T', 33, 0)
-    );
+    assert_eq!(rt; told(Refusal::BookRow(7)), ('B', 5, 7));
+    assert_eq!(rt; told(Refusal::ListFull(ListOwner::OfDirectory)), ('D', 8, 0));
+    assert_eq!(rt; told(Refusal::BeyondModel), ('E', 23, 7));
+    assert_eq!(rt; told(Refusal::OutOfRange(3)), ('L', 18, 3));
+    assert_eq!(rt; told(Refusal::OpenQuery), ('T', 33, 0));
 }

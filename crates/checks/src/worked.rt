@@ -1,5 +1,5 @@
 // Entries worked out over the example book.
-use crate::example::EXAMPLE;
+use crate::example::{EXAMPLE, told};
 use book::checked::Book;
 use layers::customs::CustomTypes;
 use layers::items::CustomType;
@@ -7,6 +7,7 @@ use std::test::Fail;
 use units::codes::{AerodromeCode, Designator};
 use units::entries::Entry;
 use units::measures::{Kind, Measure};
+use units::worked::{Marks, WorkedEntry};
 use working::work_out;
 
 // GL7T at 750 km takes 2,002,000 g.
@@ -24,30 +25,20 @@ const FIRST: Entry = Entry {
     exempt: false,
 };
 
-// Number and place of the refusal; 0 and 0 where there is none.
-fn refused(entry: Entry) -> (u32, usize) {
+fn work(entry: Entry) -> Result<WorkedEntry, (u32, usize)> {
     let book = Book::of(&EXAMPLE);
-    match work_out(&book, &book, entry) {
-        Ok(_) => (0, 0),
-        Err(refusal) => {
-            let fault = refusal.fault();
-            (fault.number, fault.place)
-        }
-    }
+    told(work_out(&book, &book, entry))
 }
 
-// Fuel, and the marks gap, far and unchecked; no fuel and no marks where it is refused.
-fn worked(entry: Entry) -> (u64, bool, bool, bool) {
-    let book = Book::of(&EXAMPLE);
-    match work_out(&book, &book, entry) {
-        Ok(worked) => (
-            worked.fuel,
-            worked.marks.gap,
-            worked.marks.far,
-            worked.marks.unchecked,
-        ),
-        Err(_) => (0, false, false, false),
-    }
+// Fuel, and the marks gap, far and unchecked.
+fn worked(entry: Entry) -> Result<(u64, bool, bool, bool), (u32, usize)> {
+    let worked = work(entry)?;
+    let Marks {
+        gap,
+        far,
+        unchecked,
+    } = worked.marks;
+    Ok((worked.fuel, gap, far, unchecked))
 }
 
 fn reporting(kilograms: u32) -> Entry {
@@ -81,14 +72,14 @@ fn a_gap_takes_the_estimate_for_each_flight(rt: HostRuntime) -> Result<(), Fail>
 fn far_is_under_half_or_over_double(rt: HostRuntime) {
     assert_eq!(rt;
         worked(reporting(10_010)),
-        (10_010_000, false, false, false)
+        Ok((10_010_000, false, false, false))
     );
-    assert_eq!(rt; worked(reporting(10_009)), (10_009_000, false, true, false));
+    assert_eq!(rt; worked(reporting(10_009)), Ok((10_009_000, false, true, false)));
     assert_eq!(rt;
         worked(reporting(40_040)),
-        (40_040_000, false, false, false)
+        Ok((40_040_000, false, false, false))
     );
-    assert_eq!(rt; worked(reporting(40_041)), (40_041_000, false, true, false));
+    assert_eq!(rt; worked(reporting(40_041)), Ok((40_041_000, false, true, false)));
 }
 
 #[test]
@@ -97,7 +88,7 @@ fn without_an_estimate_a_reported_fuel_is_unchecked(rt: HostRuntime) {
         designator: Designator { bytes: *b"C525" },
         ..reporting(5)
     };
-    assert_eq!(rt; worked(unknown), (5_000, false, false, true));
+    assert_eq!(rt; worked(unknown), Ok((5_000, false, false, true)));
     let beyond = Entry {
         measure: Measure {
             kind: Kind::Distance,
@@ -105,13 +96,13 @@ fn without_an_estimate_a_reported_fuel_is_unchecked(rt: HostRuntime) {
         },
         ..reporting(5)
     };
-    assert_eq!(rt; worked(beyond), (5_000, false, false, true));
+    assert_eq!(rt; worked(beyond), Ok((5_000, false, false, true)));
     assert_eq!(rt;
         worked(Entry {
             exempt: true,
             ..reporting(40_041)
         }),
-        (40_041_000, false, true, false)
+        Ok((40_041_000, false, true, false))
     );
 }
 
@@ -120,46 +111,46 @@ fn refusals_in_their_order(rt: HostRuntime) {
     let nowhere = AerodromeCode { bytes: *b"XXXX" };
     let unknown = Designator { bytes: *b"C525" };
     assert_eq!(rt;
-        refused(Entry {
+        work(Entry {
             flights: 0,
             departure: nowhere,
             ..FIRST
         }),
-        (18, 8)
+        Err((18, 8))
     );
     assert_eq!(rt;
-        refused(Entry {
+        work(Entry {
             departure: nowhere,
             arrival: nowhere,
             ..FIRST
         }),
-        (20, 4)
+        Err((20, 4))
     );
     assert_eq!(rt;
-        refused(Entry {
+        work(Entry {
             arrival: nowhere,
             designator: unknown,
             ..FIRST
         }),
-        (21, 5)
+        Err((21, 5))
     );
     assert_eq!(rt;
-        refused(Entry {
+        work(Entry {
             designator: unknown,
             ..FIRST
         }),
-        (22, 3)
+        Err((22, 3))
     );
     let far = Measure {
         kind: Kind::Distance,
         amount: 10_001,
     };
     assert_eq!(rt;
-        refused(Entry {
+        work(Entry {
             measure: far,
             ..FIRST
         }),
-        (23, 7)
+        Err((23, 7))
     );
 }
 

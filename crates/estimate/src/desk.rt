@@ -1,16 +1,18 @@
 // The estimator and the directories that are asked, and the answer to one line.
-use crate::fields::{code, designator, field, field_count, number, number_or_0, state};
+use crate::fields::{code, designator, fields_of, number, state};
 use aerodromes::custom::CustomAerodrome;
 use aerodromes::custom_list::CustomAerodromes;
+use aerodromes::directory::Directory;
 use aerodromes::prefix::Prefix;
 use aerodromes::prefix_list::Prefixes;
 use book::checked::Book;
-use estimators::asking::Estimator;
 use layers::customs::CustomTypes;
 use layers::equivalents::Equivalents;
 use layers::items::{CustomType, Equivalent};
+use lines::forms::read;
 use questions::{aerodrome_state, flight_fuel};
-use units::measures::Kind;
+use std::fmt;
+use units::amounts::co2;
 use units::refusals::Refusal;
 
 #[derive(Drop)]
@@ -23,39 +25,23 @@ pub(crate) struct Desk<'a> {
 #[derive(Clone, Copy)]
 pub(crate) enum Reply {
     Done,
+    // grams
     Fuel(u64),
     State(u16),
-    Refused(Refusal),
-    NoQuestion,
 }
 
-fn added(answer: Result<(), Refusal>) -> Reply {
-    match answer {
-        Ok(()) => Reply::Done,
-        Err(refusal) => Reply::Refused(refusal),
+impl fmt::Display for Reply {
+    fn fmt<W: fmt::Write>(&self, f: &mut fmt::Formatter<W>) -> fmt::Result {
+        match self {
+            Reply::Done => f.write_str("ok"),
+            Reply::Fuel(grams) => write!(f, "{} {}", grams, co2(*grams)),
+            Reply::State(number) => write!(f, "{}", number),
+        }
     }
 }
 
-fn fuel(answer: Result<u64, Refusal>) -> Reply {
-    match answer {
-        Ok(grams) => Reply::Fuel(grams),
-        Err(refusal) => Reply::Refused(refusal),
-    }
-}
-
-fn found(answer: Result<u16, Refusal>) -> Reply {
-    match answer {
-        Ok(number) => Reply::State(number),
-        Err(refusal) => Reply::Refused(refusal),
-    }
-}
-
-fn kind_of(field: &[u8]) -> Option<Kind> {
-    match field {
-        b"D" => Some(Kind::Distance),
-        b"T" => Some(Kind::Time),
-        _ => None,
-    }
+fn found<D: Directory>(directory: &D, name: &[u8]) -> Result<Reply, Refusal> {
+    aerodrome_state(directory, code(name)).map(Reply::State)
 }
 
 impl<'a> Desk<'a> {
@@ -68,75 +54,47 @@ impl<'a> Desk<'a> {
         }
     }
 
-    fn ask(&self, line: &[u8]) -> Reply {
-        let kind = kind_of(field(line, 2));
-        let amount = number(field(line, 3));
-        fuel(flight_fuel(&self.estimator, designator(field(line, 1)), kind, amount))
+    fn ask(&self, name: &[u8], kind: &[u8], amount: &[u8]) -> Result<Reply, Refusal> {
+        flight_fuel(&self.estimator, designator(name), read(kind), read(amount)).map(Reply::Fuel)
     }
 
-    fn find(&self, line: &[u8]) -> Reply {
-        found(aerodrome_state(&self.aerodromes, code(field(line, 1))))
-    }
-
-    fn find_by_prefix(&self, line: &[u8]) -> Reply {
-        found(aerodrome_state(&self.prefixes, code(field(line, 1))))
-    }
-
-    fn add_equivalent(&mut self, line: &[u8]) -> Reply {
-        added(
-            self.estimator.add_equivalent(Equivalent {
-                designator: designator(field(line, 1)),
-                named: designator(field(line, 2)),
-                p: number_or_0(field(line, 3)),
-                q: number_or_0(field(line, 4)),
+    // The answer to one line; none where it is no question.
+    pub(crate) fn reply(&mut self, line: &[u8]) -> Option<Result<Reply, Refusal>> {
+        let fields = fields_of(line)?;
+        let added = match fields.as_slice() {
+            [b"ASK", name, kind, amount] => return Some(self.ask(name, kind, amount)),
+            [b"FND", name] => return Some(found(&self.aerodromes, name)),
+            [b"PFX", name] => return Some(found(&self.prefixes, name)),
+            [b"EQV", name, named, p, q] => self.estimator.add_equivalent(Equivalent {
+                designator: designator(name),
+                named: designator(named),
+                p: number(p),
+                q: number(q),
             }),
-        )
-    }
-
-    fn add_custom_type(&mut self, line: &[u8]) -> Reply {
-        added(
-            self.estimator.add(CustomType {
-                designator: designator(field(line, 1)),
-                category: number_or_0(field(line, 2)),
-                mass: number_or_0(field(line, 3)),
+            [b"CUS", name, category, mass] => self.estimator.add(CustomType {
+                designator: designator(name),
+                category: number(category),
+                mass: number(mass),
             }),
-        )
+            [b"PRE", prefix, of] => self.add_prefix(prefix, of),
+            [b"AER", name, of] => self.aerodromes.add(CustomAerodrome {
+                code: code(name),
+                state: state(of),
+            }),
+            _ => return None,
+        };
+        Some(added.map(|()| Reply::Done))
     }
 
-    fn add_prefix(&mut self, line: &[u8]) -> Reply {
-        let (first, second) = match field(line, 1) {
-            [a, b] => (*a, *b),
+    fn add_prefix(&mut self, prefix: &[u8], of: &[u8]) -> Result<(), Refusal> {
+        let (first, second) = match prefix {
+            [first, second] => (*first, *second),
             _ => (0, 0),
         };
-        added(
-            self.prefixes.add(Prefix {
-                first,
-                second,
-                state: state(field(line, 2)),
-            }),
-        )
-    }
-
-    fn add_aerodrome(&mut self, line: &[u8]) -> Reply {
-        added(
-            self.aerodromes.add(CustomAerodrome {
-                code: code(field(line, 1)),
-                state: state(field(line, 2)),
-            }),
-        )
-    }
-
-    // The answer to one line.
-    pub(crate) fn reply(&mut self, line: &[u8]) -> Reply {
-        match (field(line, 0), field_count(line)) {
-            (b"EQV", 5) => self.add_equivalent(line),
-            (b"CUS", 4) => self.add_custom_type(line),
-            (b"PRE", 3) => self.add_prefix(line),
-            (b"AER", 3) => self.add_aerodrome(line),
-            (b"ASK", 4) => self.ask(line),
-            (b"FND", 2) => self.find(line),
-            (b"PFX", 2) => self.find_by_prefix(line),
-            _ => Reply::NoQuestion,
-        }
+        self.prefixes.add(Prefix {
+            first,
+            second,
+            state: state(of),
+        })
     }
 }

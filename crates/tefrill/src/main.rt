@@ -11,24 +11,10 @@ use units::codes::Designator;
 use units::measures::{Kind, Measure};
 use units::refusals::Refusal;
 
-fn print_refusal(rt: &HostRuntime, line: usize, refusal: Refusal) -> io::Result<()> {
-    let fault = refusal.fault();
-    let letter = fault.layer.letter();
-    let number = fault.number;
-    let place = fault.place;
-    println!(rt; "R {line} {letter} {number} {place}")
-}
-
 fn print_header(rt: &HostRuntime, header: Header) -> io::Result<()> {
-    let year = header.year;
-    let distances = header.distances;
-    let times = header.times;
-    let rows = header.rows;
-    let aerodromes = header.aerodromes;
-    let states = header.states;
-    println!(rt; "book of {year}")?;
-    println!(rt; "distance columns {distances}, time columns {times}")?;
-    println!(rt; "rows {rows}, aerodromes {aerodromes}, States {states}")
+    println!(rt; "book of {}", header.year)?;
+    println!(rt; "distance columns {}, time columns {}", header.distances, header.times)?;
+    println!(rt; "rows {}, aerodromes {}, States {}", header.rows, header.aerodromes, header.states)
 }
 
 fn print_estimate(rt: &HostRuntime, book: &Book<'_>) -> io::Result<()> {
@@ -37,15 +23,13 @@ fn print_estimate(rt: &HostRuntime, book: &Book<'_>) -> io::Result<()> {
         kind: Kind::Distance,
         amount: 750,
     };
-    let amount = measure.amount;
-    println!(rt; "type GL7T, distance {amount} km")?;
-    match book.ask(designator, measure).outcome() {
+    println!(rt; "type GL7T, distance {} km", measure.amount)?;
+    match book.ask(designator, measure).map_err(Refusal::from) {
         Ok(fuel) => {
-            let emitted = co2(fuel);
             println!(rt; "fuel {fuel} g")?;
-            println!(rt; "CO2 {emitted} hundredths of a gram")
+            println!(rt; "CO2 {} hundredths of a gram", co2(fuel))
         }
-        Err(refusal) => print_refusal(rt, 0, refusal),
+        Err(refusal) => println!(rt; "R 0 {refusal}"),
     }
 }
 
@@ -56,6 +40,6 @@ fn main(rt: HostRuntime) -> io::Result<()> {
             print_header(&rt, header)?;
             print_estimate(&rt, &Book::of(&bytes))
         }
-        Err(refusal) => print_refusal(&rt, 0, refusal),
+        Err(refusal) => println!(&rt; "R 0 {refusal}"),
     }
 }
