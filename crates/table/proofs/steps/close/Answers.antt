@@ -12,7 +12,7 @@ returns g c =
     let xs = c.args.slots.now in
     let end = c.args.end in
     let p = c.args.place in
-    let closes : (x : g.row.R.Denot) → set c.move_down.new.slots (end - 1) x ≡ taken_out x xs end p = λ x. ap (λ l. set l (end - 1) x) c.move_down.ensures ∙ moved_down xs end p x c.requires.0 c.requires.1 in
+    let closes : (x : g.row.R.Denot) → set c.copy_within.new.self (end - 1) x ≡ taken_out x xs end p = λ x. ap (λ l. set l (end - 1) x) c.copy_within.ensures.after ∙ moved_down xs end p x c.requires.0 c.requires.1 in
     record {
       closes = closes;
       ordered = λ n clamped ordered.

@@ -10,7 +10,7 @@ returns g c =
     let xs = c.args.slots.now in
     let n = c.args.end in
     let p = c.args.place in
-    let opens : (x : g.row.R.Denot) → set c.move_up.new.slots p x ≡ put_in xs n p x = λ x. ap (λ l. set l p x) c.move_up.ensures ∙ moved_up xs n p x c.requires.0 c.requires.1 in
+    let opens : (x : g.row.R.Denot) → set c.copy_within.new.self p x ≡ put_in xs n p x = λ x. ap (λ l. set l p x) c.copy_within.ensures.after ∙ moved_up xs n p x c.requires.0 c.requires.1 in
     record {
       opens = opens;
       ordered = λ x ordered free. in_order_at D g.R.Record.unused _ _ (n + 1) _ (opens x) (insert_in_order D g.R.Record.unused xs n p ordered x c.requires.1 free);
