@@ -1,15 +1,15 @@
 -- A block of records moved by one place, as list equations. Assumes nothing.
-use Rattle.std.proofs.Common.{◌≡◌, ℕ, suc, ◌+◌, ◌-◌, ◌<◌, ◌≤◌, List, [], ◌∷◌, ◌++◌, length, get_or, take, drop, set, replicate, sym, ap, ◌∙◌, append_assoc, arith, length-append, length-drop, length-take, take-take}
-use lib.ListN.{length-replicate}
+use Rattle.std.proofs.Common.{◌≡◌, ℕ, suc, ◌+◌, ◌-◌, ◌<◌, ◌≤◌, List, ◌∷◌, ◌++◌, length, get_or, take, drop, set, sym, ap, ◌∙◌, append_assoc, arith, length-append, length-drop, length-take, take-take}
 use lib.Seq.{paste, set_at}
-use Rattle.std.proofs.lemmas.List.{append-nil, take_more, drop_more, drop_all, length-take-le, replicate_more}
+use Rattle.std.specs.List.{copy_within}
+use Rattle.std.proofs.lemmas.List.{take_more, drop_more, length-take-le}
 use Rattle.std.proofs.lemmas.Slice.{between_is}
 use Rattle.table.specs.Changing.{put_in, taken_out}
 
-module _ {R : Type 0} (xs : List R) (n p : ℕ) (x : R) where
+module _ {R : Type 0} (xs : List R) (n p : ℕ) (x : R) (ys : List R) where
   -- the records from p on moved up, and x written at p
-  pub moved_up : p ≤ n → n < length xs → set (paste xs (p + 1) (drop p xs) (n - p)) p x ≡ put_in xs n p x
-  moved_up le lt =
+  pub moved_up : ys ≡ copy_within xs p n (p + 1) → p ≤ n → n < length xs → set ys p x ≡ put_in xs n p x
+  moved_up is le lt =
       let front = take p xs in
       let block = take (n - p) (drop p xs) in
       let rest = drop (n + 1) xs in
@@ -20,14 +20,14 @@ module _ {R : Type 0} (xs : List R) (n p : ℕ) (x : R) where
       ap (λ k. take (p + 1) xs ++ block ++ drop k xs) past
       ∙ ap (λ l. l ++ block ++ rest) (take_more xs p x (omega arith))
       ∙ simp append_assoc in
-      ap (λ l. set l p x) pasted
+      ap (λ l. set l p x) (is ∙ pasted)
       ∙ set_at front (get_or xs p x) (block ++ rest) x p (length-take-le p xs (omega arith))
       ∙ sym (append_assoc front (x ∷ block) rest)
       ∙ sym (λ i. (in_front i ++ x ∷ in_block i) ++ rest)
 
   -- the records after p moved down, and x written at the last of their places
-  pub moved_down : p < n → n ≤ length xs → set (paste xs p (drop (p + 1) xs) (n - (p + 1))) (n - 1) x ≡ taken_out x xs n p
-  moved_down lt le =
+  pub moved_down : ys ≡ copy_within xs (p + 1) n p → p < n → n ≤ length xs → set ys (n - 1) x ≡ taken_out x xs n p
+  moved_down is lt le =
       let front = take p xs in
       let block = take (n - (p + 1)) (drop (p + 1) xs) in
       let next : p + 1 ≡ suc p = omega arith in
@@ -40,18 +40,6 @@ module _ {R : Type 0} (xs : List R) (n p : ℕ) (x : R) where
       let pasted : paste xs p (drop (p + 1) xs) (n - (p + 1)) ≡ (front ++ block) ++ get_or xs (n - 1) x ∷ drop n xs =
       ap (λ k. front ++ block ++ drop k xs) past ∙ ap (λ l. front ++ block ++ l) tail in
       let long : length (front ++ block) ≡ n - 1 = simp (length-append, length-take, length-drop) (omega arith) in
-      ap (λ l. set l (n - 1) x) pasted
+      ap (λ l. set l (n - 1) x) (is ∙ pasted)
       ∙ set_at (front ++ block) (get_or xs (n - 1) x) (drop n xs) x (n - 1) long
       ∙ sym (λ i. (in_front i ++ in_block i) ++ x ∷ drop n xs)
-
--- a loop that writes x at each place
-pub filled_more : {R : Type 0} (xs : List R) (i : ℕ) (x : R) → i < length xs → set (replicate i x ++ drop i xs) i x ≡ replicate (i + 1) x ++ drop (i + 1) xs
-filled_more xs i x lt =
-    ap (λ l. set (replicate i x ++ l) i x) (drop_more xs i x lt)
-    ∙ set_at (replicate i x) (get_or xs i x) (drop (i + 1) xs) x i (length-replicate i x)
-    ∙ sym (append_assoc (replicate i x) (x ∷ []) (drop (i + 1) xs))
-    ∙ ap (λ l. l ++ drop (i + 1) xs) (replicate_more i x)
-
-pub filled_all : {R : Type 0} (xs : List R) (i : ℕ) (x : R) → i ≡ length xs → replicate i x ++ drop i xs ≡ replicate (length xs) x
-filled_all xs i x e =
-    ap (λ l. replicate i x ++ l) (drop_all i xs (omega arith)) ∙ append-nil (replicate i x) ∙ ap (λ n. replicate n x) e

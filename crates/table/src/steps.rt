@@ -49,34 +49,6 @@ pub fn read<R: Record>(slots: &[R], count: usize, place: usize) -> Option<R>
     slots[..used(slots, count)].get(place).copied()
 }
 
-// Leaves a place for any record.
-fn open<R: Record>(slots: &mut [R], place: usize, end: usize)
-    requires { (place ≤ end) × (end < length slots.old) }
-    ensures opens { (x : R) → slice_set slots.new place x ≡ put_in slots.old end place x }
-    ensures ordered { (x : R) → InsertsInOrder (λ x. R.Key.Key.digits (R.keyed x)) R.unused slots.old end place x (slice_set slots.new place x) }
-{
-    slots.copy_within(place..end, place + 1);
-}
-
-// Closes the place of a record; the last place is then free.
-fn close<R: Record>(slots: &mut [R], place: usize, end: usize)
-    requires { (place < end) × (end ≤ length slots.old) }
-    ensures closes { (x : R) → slice_set slots.new (end - 1) x ≡ taken_out x slots.old end place }
-    ensures ordered { (n : ℕ) → end ≡ used slots.old n → RemovesInOrder (λ x. R.Key.Key.digits (R.keyed x)) R.unused slots.old n place (slice_set slots.new (end - 1) R.unused) }
-    ensures undone { (n : ℕ) → end ≡ used slots.old n → RemovesWhatWasPutIn (λ x. R.Key.Key.digits (R.keyed x)) R.unused slots.old n place (slice_set slots.new (end - 1) R.unused) }
-{
-    slots.copy_within(place + 1..end, place);
-}
-
-// Writes a record over another.
-fn write<R: Record>(slots: &mut [R], place: usize, row: R)
-    requires { place < length slots.old }
-    ensures after { slots.new ≡ slice_set slots.old place row }
-    ensures ordered { (n : ℕ) → place < n → ReplacesInOrder (λ x. R.Key.Key.digits (R.keyed x)) R.unused slots.old n place row slots.new }
-{
-    slots[place] = row;
-}
-
 // Puts a record in at a place; refused where the table is full or the place lies past its records.
 pub fn insert<R: Record>(slots: &mut [R], count: usize, place: usize, row: R) -> bool
     ensures answer { result ≡ has_room slots.old count place }
@@ -85,7 +57,7 @@ pub fn insert<R: Record>(slots: &mut [R], count: usize, place: usize, row: R) ->
 {
     let room = place <= count && count < slots.len();
     if room {
-        open(slots, place, count);
+        slots.copy_within(place..count, place + 1);
         slots[place] = row;
     }
     room
@@ -99,7 +71,7 @@ pub fn replace<R: Record>(slots: &mut [R], count: usize, place: usize, row: R) -
 {
     let held = place < used(slots, count);
     if held {
-        write(slots, place, row);
+        slots[place] = row;
     }
     held
 }
@@ -114,7 +86,7 @@ pub fn remove<R: Record>(slots: &mut [R], count: usize, place: usize) -> bool
     let end = used(slots, count);
     let held = place < end;
     if held {
-        close(slots, place, end);
+        slots.copy_within(place + 1..end, place);
         slots[end - 1] = R::blank();
     }
     held
