@@ -2,7 +2,7 @@ use Rattle.std.proofs.Common.{◌≡◌, ℕ, ◌+◌, ◌<◌, ◌≤◌, true,
 use Rattle.std.proofs.lemmas.Bool.{cond-true}
 use Rattle.table.specs.Changing.{has_room, put_in}
 use Rattle.table.proofs.Keeping.{in_order_at, insert_in_order}
-use Rattle.table.proofs.Moving.{moved_up}
+use Rattle.table.proofs.Contents.{moved_up}
 use Rattle.table.proofs.steps.insert.Goals as goal
 
 pub returns-then-room : goal.returns-then-room
@@ -14,7 +14,7 @@ returns-then-room g c =
     let le : p ≤ n = omega arith in
     let lt : n < length xs = omega arith in
     let room : has_room xs n p ≡ true = search rules in
-    let opened : set c.copy_within.new.self p c.args.row ≡ put_in xs n p c.args.row = moved_up xs n p c.args.row c.copy_within.new.self c.copy_within.ensures.after le lt in
+    let opened : set c.copy_within.new.self p c.args.row ≡ put_in xs n p c.args.row = moved_up xs n p c.args.row le lt c.copy_within.new.self c.copy_within.ensures.after in
     record {
       answer = search rules;
       after = opened ∙ sym (cond-true (has_room xs n p) _ _ room);

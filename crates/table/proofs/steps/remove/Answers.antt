@@ -3,7 +3,7 @@ use Rattle.std.proofs.lemmas.Bool.{cond-true}
 use Rattle.table.specs.Changing.{holds, taken_out}
 use Rattle.table.proofs.Contents.{length_put_in}
 use Rattle.table.proofs.Keeping.{in_order_at, remove_in_order, remove_undoes}
-use Rattle.table.proofs.Moving.{moved_down}
+use Rattle.table.proofs.Contents.{moved_down}
 use Rattle.table.proofs.steps.remove.Goals as goal
 
 pub returns-then-held : goal.returns-then-held
@@ -18,7 +18,7 @@ returns-then-held g c =
     let within : end ≤ length xs = omega arith in
     let held : holds xs n p ≡ true = search rules in
     let closed : set c.copy_within.new.self (end - 1) c.blank.result ≡ taken_out blank xs end p =
-    moved_down xs end p c.blank.result c.copy_within.new.self c.copy_within.ensures.after inside within ∙ ap (λ x. taken_out x xs end p) c.blank.ensures in
+    moved_down xs end p c.blank.result inside within c.copy_within.new.self c.copy_within.ensures.after ∙ ap (λ x. taken_out x xs end p) c.blank.ensures in
     record {
       answer = search rules;
       after = closed ∙ ap (λ m. taken_out blank xs m p) c.used-end.ensures ∙ sym (cond-true (holds xs n p) _ _ held);
