@@ -1,10 +1,10 @@
 // The class of a row of State pairs.
 ghost use Rattle.std.specs.Prelude.{◌≡◌, slice_index};
-ghost use Rattle.totals.specs.Classes.{letter as letter_of, takes_part as taking_part, class_of as classed};
+ghost use Rattle.totals.specs.Classes.{letter, takes_part as taking_part, class_of as classed};
 
 use keys::kinds::StatePair;
 
-#[derive(Clone, Copy)]
+#[derive(Clone, Copy, Debug, PartialEq, Eq)]
 pub enum Class {
     Domestic,
     // international, not subject to offsetting
@@ -12,11 +12,12 @@ pub enum Class {
     Subject,
 }
 
-impl Class {
-    pub fn letter(self) -> char
-        ensures { result ≡ letter_of self }
-    {
-        match self {
+// Its letter.
+impl From<Class> for char {
+    ghost from_gives = { λ class r. r ≡ letter class };
+
+    fn from(class: Class) -> char {
+        match class {
             Class::Domestic => 'D',
             Class::International => 'N',
             Class::Subject => 'S',
