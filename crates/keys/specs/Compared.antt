@@ -1,8 +1,8 @@
--- How two lists of digits compare. Assumes nothing.
-use Rattle.std.specs.Prelude.{ℕ, cond, List}
-use Rattle.std.specs.declared.cmp.Ordering.TheVariants.{Less, Equal, Greater}
+-- How two lists of digits compare: the first that differs decides, and else the shorter list comes first. Assumes nothing.
+use Rattle.std.specs.Prelude.{ℕ, List}
+use Rattle.std.specs.Cmp.Lexicographic.{slice_cmp}
+use Rattle.std.specs.Ordering.{nat_cmp}
 use Rattle.std.specs.declared.cmp.Ordering.{Ordering}
-use Rattle.units.specs.Order.{earlier, same}
 
-unfoldable pub compared : List ℕ → List ℕ → Ordering
-compared xs ys = cond (earlier xs ys) Less (cond (same xs ys) Equal Greater)
+abbrev pub compared : List ℕ → List ℕ → Ordering
+compared = slice_cmp nat_cmp

@@ -17,9 +17,12 @@ pub trait Key: Copy {
     // The key of a blank record.
     ghost zero: { Self };
 
+    // Not `Default`, whose contract names no value that a clause could cite.
     fn blank() -> Self
         ensures { result ≡ zero };
 
+    // What `cmp` answers, and that both keys are sized. Not `cmp` itself: of keys that are not sized it is no order of
+    // digits, and the contract of `cmp` cannot say that they are.
     fn compare(&self, other: &Self) -> Ordering
         ensures is { result ≡ compared (digits self.now) (digits other.now) }
         ensures sized { sized self.now × sized other.now };

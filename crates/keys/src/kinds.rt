@@ -1,14 +1,14 @@
 // The kinds of keys: references, pairs of States, pairs of aerodromes and types.
 ghost use Rattle.std.specs.Prelude.{◌≡◌, [], ◌∷◌, ◌++◌, length};
+ghost use Rattle.keys.specs.Compared.{compared};
 ghost use Rattle.keys.specs.Told.{reference_told, states_told, aerodromes_told, type_told};
 
 use crate::key::Key;
-use crate::orders::{compare_code_pairs, compare_codes, compare_numbers};
 use std::cmp::Ordering;
 use units::codes::{AerodromeCode, Designator};
 
 // The reference of an entry.
-#[derive(Clone, Copy)]
+#[derive(Clone, Copy, Debug, PartialEq, Eq, PartialOrd, Ord)]
 pub struct Reference {
     pub number: u32,
 }
@@ -26,13 +26,14 @@ impl Key for Reference {
         Reference { number: 0 }
     }
 
+    #[tactic(auto, using(crate::proofs::Comparing::compared_one))]
     fn compare(&self, other: &Reference) -> Ordering {
-        compare_numbers(&[self.number], &[other.number])
+        self.cmp(other)
     }
 }
 
 // The States of departure and arrival, by their numbers.
-#[derive(Clone, Copy)]
+#[derive(Clone, Copy, Debug, PartialEq, Eq, PartialOrd, Ord)]
 pub struct StatePair {
     pub departure: u16,
     pub arrival: u16,
@@ -54,15 +55,14 @@ impl Key for StatePair {
         }
     }
 
+    #[tactic(auto, using(crate::proofs::Comparing::compared_two))]
     fn compare(&self, other: &StatePair) -> Ordering {
-        let (a, b) = (self.departure as u32, self.arrival as u32);
-        let (c, d) = (other.departure as u32, other.arrival as u32);
-        compare_numbers(&[a, b], &[c, d])
+        self.cmp(other)
     }
 }
 
 // The aerodromes of departure and arrival.
-#[derive(Clone, Copy)]
+#[derive(Clone, Copy, Debug, PartialEq, Eq, PartialOrd, Ord)]
 pub struct AerodromePair {
     pub departure: AerodromeCode,
     pub arrival: AerodromeCode,
@@ -86,14 +86,21 @@ impl Key for AerodromePair {
     }
 
     fn compare(&self, other: &AerodromePair) -> Ordering {
-        let (a, b) = (self.departure.bytes, self.arrival.bytes);
-        let (c, d) = (other.departure.bytes, other.arrival.bytes);
-        compare_code_pairs(a, b, c, d)
+        compare_by_value(*self, *other)
     }
 }
 
+// A proof knows the sizes of what is passed by value alone.
+#[tactic(auto, using(crate::proofs::Comparing::compared_append))]
+fn compare_by_value(a: AerodromePair, b: AerodromePair) -> Ordering
+    ensures is { result ≡ compared (a.departure.bytes ++ a.arrival.bytes) (b.departure.bytes ++ b.arrival.bytes) }
+    ensures sized { (length a.departure.bytes ≡ 4) × (length b.departure.bytes ≡ 4) }
+{
+    a.cmp(&b)
+}
+
 // An aeroplane type, by its designator.
-#[derive(Clone, Copy)]
+#[derive(Clone, Copy, Debug, PartialEq, Eq, PartialOrd, Ord)]
 pub struct AeroplaneType {
     pub designator: Designator,
 }
@@ -116,6 +123,6 @@ impl Key for AeroplaneType {
     }
 
     fn compare(&self, other: &AeroplaneType) -> Ordering {
-        compare_codes(self.designator.bytes, other.designator.bytes)
+        self.cmp(other)
     }
 }

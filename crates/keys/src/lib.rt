@@ -3,4 +3,3 @@
 
 pub mod key;
 pub mod kinds;
-mod orders;

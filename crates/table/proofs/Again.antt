@@ -1,5 +1,5 @@
 -- A look-up in a table in order has one answer, also after a change. Assumes nothing.
-use Rattle.std.proofs.Common.{◌≡◌, ℕ, ◌+◌, ◌-◌, ◌<◌, ◌≤◌, min, true, eqb, ltb, List, length, get_or, take, set, sym, ap, ◌∙◌, subst, ⊎_elim, arith}
+use Rattle.std.proofs.Common.{Ok, Err, Result, ◌≡◌, ℕ, ◌+◌, ◌-◌, ◌<◌, ◌≤◌, min, true, eqb, ltb, List, length, get_or, take, set, sym, ap, ◌∙◌, subst, ⊎_elim, arith}
 use Rattle.std.specs.List.{insert, remove}
 use Rattle.std.proofs.lemmas.List.Edits.{length-insert, get_or-insert_at, length-remove, get_or-remove_below, get_or-remove_above}
 use Rattle.std.proofs.lemmas.List.{length-take-le, length-set, get_or-take}
@@ -8,8 +8,6 @@ use Rattle.units.specs.Order.{earlier}
 use Rattle.units.proofs.Ordered.{same_not_earlier, equal_same}
 use Rattle.keys.specs.Compared.{compared}
 use Rattle.keys.proofs.Comparing.{earlier_not_later}
-use Rattle.table.specs.declared.steps.Place.{Place}
-use Rattle.table.specs.declared.steps.Place.TheVariants.{Found, Free}
 use Rattle.table.specs.Changing.{put_in, taken_out}
 use Rattle.table.specs.Locating.{halved, located, after_taking}
 use Rattle.table.specs.Order.{Rising, Ordered, Between, Told}
@@ -22,7 +20,7 @@ apart : (xs ys : List ℕ) → xs ≡ ys → earlier xs ys ≡ true → ⊥
 apart xs ys e h = both_ways (earlier xs ys) (ap (earlier xs) (sym e) ∙ same_not_earlier xs xs (equal_same xs)) h
 
 module _ {R : Type 0} (digits : R → List ℕ) (blank : R) (rs : List R) (k : List ℕ) where
-  not_free : (i p : ℕ) → Told digits blank rs k (Found i) → Between digits blank rs k p → ⊥
+  not_free : (i p : ℕ) → Told digits blank rs k (Ok i) → Between digits blank rs k p → ⊥
   not_free i p found between =
       ⊎_elim
       (λ lt. apart (digits (get_or rs i blank)) k found.1 (between.before i lt))
@@ -35,17 +33,17 @@ module _ {R : Type 0} (digits : R → List ℕ) (blank : R) (rs : List R) (k : L
       both_ways (earlier k key) (earlier_not_later key k (b.before p lt)) (a.after p (omega arith) (omega (arith, b.within)))
 
   -- the records and the key fix the place
-  pub told_once : Rising digits blank rs → (a b : Place) → Told digits blank rs k a → Told digits blank rs k b → a ≡ b
-  told_once rising (Found i) (Found j) x y =
-      ⊎_elim (ap Found)
+  pub told_once : Rising digits blank rs → (a b : Result ℕ ℕ) → Told digits blank rs k a → Told digits blank rs k b → a ≡ b
+  told_once rising (Ok i) (Ok j) x y =
+      ⊎_elim (ap Ok)
       (⊎_elim
       (λ lt. absurd (apart _ _ (x.1 ∙ sym y.1) (rising i j lt y.0)))
       (λ gt. absurd (apart _ _ (y.1 ∙ sym x.1) (rising j i gt x.0))))
       (cases_order i j)
-  told_once rising (Found i) (Free q) x y = absurd (not_free i q x y)
-  told_once rising (Free p) (Found j) x y = absurd (not_free j p y x)
-  told_once rising (Free p) (Free q) x y =
-      ⊎_elim (ap Free) (⊎_elim (λ lt. absurd (not_before p q x y lt)) (λ gt. absurd (not_before q p y x gt))) (cases_order p q)
+  told_once rising (Ok i) (Err q) x y = absurd (not_free i q x y)
+  told_once rising (Err p) (Ok j) x y = absurd (not_free j p y x)
+  told_once rising (Err p) (Err q) x y =
+      ⊎_elim (ap Err) (⊎_elim (λ lt. absurd (not_before p q x y lt)) (λ gt. absurd (not_before q p y x gt))) (cases_order p q)
 
   -- what a place says of the records without the one at p
   module _ (p : ℕ) (inside : p < length rs) (rising : Rising digits blank rs) where
@@ -85,53 +83,53 @@ module _ {R : Type 0} (digits : R → List ℕ) (blank : R) (rs : List R) (k : L
           (cases_lt j p);
     }
 
-    told_removed : (place : Place) → Told digits blank rs k place → Told digits blank (remove rs p) k (after_taking p place)
-    told_removed (Free q) b =
+    told_removed : (place : Result ℕ ℕ) → Told digits blank rs k place → Told digits blank (remove rs p) k (after_taking p place)
+    told_removed (Err q) b =
         ⊎_elim
         (λ lt. subst (Between digits blank (remove rs p) k) (sym (cond-true (ltb p q) (q - 1) q (lt-ltb p q lt))) (past_p q lt b))
         (λ le. subst (Between digits blank (remove rs p) k) (sym (cond-false (ltb p q) (q - 1) q (le-ltb p q le))) (up_to_p q le b))
         (cases_lt p q)
-    told_removed (Found i) t =
+    told_removed (Ok i) t =
         let T = Told digits blank (remove rs p) k in
         ⊎_elim
-        (λ here. subst T (sym (cond-true (eqb i p) (Free p) _ (eq-eqb i p here))) (at_p (ap (λ m. digits (get_or rs m blank)) (sym here) ∙ t.1)))
+        (λ here. subst T (sym (cond-true (eqb i p) (Err p) _ (eq-eqb i p here))) (at_p (ap (λ m. digits (get_or rs m blank)) (sym here) ∙ t.1)))
         (λ other.
-        subst T (sym (cond-false (eqb i p) (Free p) _ (ne_eqb i p other)))
+        subst T (sym (cond-false (eqb i p) (Err p) _ (ne_eqb i p other)))
         (⊎_elim
         (λ lt.
         let back : i - 1 + 1 ≡ i = omega arith in
-        let found : T (Found (i - 1)) = (omega (arith, fewer, t.0), ap digits (high (i - 1) (omega arith)) ∙ ap (λ m. digits (get_or rs m blank)) back ∙ t.1) in
-        subst (λ m. T (Found m)) (sym (cond-true (ltb p i) (i - 1) i (lt-ltb p i lt))) found)
+        let found : T (Ok (i - 1)) = (omega (arith, fewer, t.0), ap digits (high (i - 1) (omega arith)) ∙ ap (λ m. digits (get_or rs m blank)) back ∙ t.1) in
+        subst (λ m. T (Ok m)) (sym (cond-true (ltb p i) (i - 1) i (lt-ltb p i lt))) found)
         (λ le.
         let before : i < p = omega arith in
-        let found : T (Found i) = (omega (arith, fewer), ap digits (low i before) ∙ t.1) in
-        subst (λ m. T (Found m)) (sym (cond-false (ltb p i) (i - 1) i (le-ltb p i le))) found)
+        let found : T (Ok i) = (omega (arith, fewer), ap digits (low i before) ∙ t.1) in
+        subst (λ m. T (Ok m)) (sym (cond-false (ltb p i) (i - 1) i (le-ltb p i le))) found)
         (cases_lt p i)))
         (cases_eq i p)
 
 module _ {R : Type 0} (digits : R → List ℕ) (blank : R) (xs : List R) (n : ℕ) where
   -- a place of which the records say what a look-up's answer does is that answer
-  pub located_is : (k : List ℕ) (place : Place) → Rising digits blank (take n xs) → Told digits blank (take n xs) k place → located digits blank xs n k ≡ place
+  pub located_is : (k : List ℕ) (place : Result ℕ ℕ) → Rising digits blank (take n xs) → Told digits blank (take n xs) k place → located digits blank xs n k ≡ place
   located_is k place rising told = told_once digits blank (take n xs) k rising (located digits blank xs n k) place (located_tells digits blank xs n k rising) told
 
 module _ {R : Type 0} (digits : R → List ℕ) (blank : R) (xs : List R) (n : ℕ) where
   module _ (ordered : Ordered digits blank xs n) where
     -- a record that is there is found
-    pub located_present : (i : ℕ) → i < n → located digits blank xs n (digits (get_or xs i blank)) ≡ Found i
+    pub located_present : (i : ℕ) → i < n → located digits blank xs n (digits (get_or xs i blank)) ≡ Ok i
     located_present i lt =
         let long = length-take-le n xs ordered.within in
-        located_is digits blank xs n (digits (get_or xs i blank)) (Found i) ordered.rising (omega arith, ap digits (get_or-take n xs i blank lt))
+        located_is digits blank xs n (digits (get_or xs i blank)) (Ok i) ordered.rising (omega arith, ap digits (get_or-take n xs i blank lt))
 
     -- and so is one that was put in
-    pub located_inserted : (p : ℕ) (r : R) → n < length xs → located digits blank xs n (digits r) ≡ Free p → located digits blank (put_in xs n p r) (n + 1) (digits r) ≡ Found p
+    pub located_inserted : (p : ℕ) (r : R) → n < length xs → located digits blank xs n (digits r) ≡ Err p → located digits blank (put_in xs n p r) (n + 1) (digits r) ≡ Ok p
     located_inserted p r lt free =
         let between = free_between digits blank xs n p ordered (digits r) free in
         let long = length-take-le n xs ordered.within in
         let le : p ≤ n = omega (arith, between.within) in
         let more = length-insert (take n xs) p r between.within in
-        let found : Told digits blank (insert (take n xs) p r) (digits r) (Found p) = (omega arith, ap digits (get_or-insert_at (take n xs) p r blank between.within)) in
-        located_is digits blank (put_in xs n p r) (n + 1) (digits r) (Found p) (insert_keeps digits blank xs n p ordered r lt free).rising
-        (subst (λ l. Told digits blank l (digits r) (Found p)) (sym (put_in_inserted xs n p r le lt)) found)
+        let found : Told digits blank (insert (take n xs) p r) (digits r) (Ok p) = (omega arith, ap digits (get_or-insert_at (take n xs) p r blank between.within)) in
+        located_is digits blank (put_in xs n p r) (n + 1) (digits r) (Ok p) (insert_keeps digits blank xs n p ordered r lt free).rising
+        (subst (λ l. Told digits blank l (digits r) (Ok p)) (sym (put_in_inserted xs n p r le lt)) found)
 
     -- the answer for any key, once the record at p is taken out
     pub located_removed : (p : ℕ) (k : List ℕ) → p < n → located digits blank (taken_out blank xs n p) (n - 1) k ≡ after_taking p (located digits blank xs n k)

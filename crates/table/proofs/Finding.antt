@@ -1,5 +1,5 @@
 -- What a look-up by halving finds in a table in order, and in how many turns. Assumes nothing.
-use Rattle.std.proofs.Common.{◌≡◌, ℕ, zero, suc, ◌+◌, ◌-◌, ◌^◌, ◌<◌, ◌≤◌, min, true, List, length, get_or, take, Ordering, Less, Equal, Greater, sym, ap, ◌∙◌, subst, ⊎_elim, pow-suc, arith, length-take}
+use Rattle.std.proofs.Common.{refl, ◌≡◌, ℕ, zero, suc, ◌+◌, ◌-◌, ◌^◌, ◌<◌, ◌≤◌, min, true, List, length, get_or, take, Ordering, Less, Equal, Greater, sym, ap, ◌∙◌, subst, ⊎_elim, pow-suc, arith, length-take}
 use Rattle.std.proofs.lemmas.List.{get_or-take}
 use Rattle.std.proofs.lemmas.Bool.{cases_lt, cases_eq}
 use Rattle.units.specs.Order.{earlier}
@@ -66,7 +66,7 @@ module _ {R : Type 0} (digits : R → List ℕ) (blank : R) (rs : List R) (k : L
     halved_tells (suc turns) low high enough n =
         ⊎_elim
         (λ lt.
-        let told = turn_tells turns (halved_tells turns) low high lt enough n (compared (key_of (middle low high)) k) (compared_tells (key_of (middle low high)) k) in
+        let told = turn_tells turns (halved_tells turns) low high lt enough n (compared (key_of (middle low high)) k) (compared_tells (key_of (middle low high)) k _ refl) in
         let is = reads (middle low high) (omega (arith, n.within)) in
         subst (Told digits blank rs k)
         (ap (λ o. half o (middle low high) (halved order turns (middle low high + 1) high) (halved order turns low (middle low high))) (sym is) ∙ sym (halved_turn order turns low high lt))

@@ -1,10 +1,8 @@
 -- A loop that halves a table. Assumes nothing.
-use Rattle.std.proofs.Common.{◌≡◌, ℕ, zero, suc, ◌+◌, ◌-◌, ◌<◌, ◌≤◌, ltb, List, length, get_or, Ordering, Less, Equal, Greater, sym, refl, ap, ◌∙◌, arith}
+use Rattle.std.proofs.Common.{Ok, Err, Result, ◌≡◌, ℕ, zero, suc, ◌+◌, ◌-◌, ◌<◌, ◌≤◌, ltb, List, length, get_or, Ordering, Less, Equal, Greater, sym, refl, ap, ◌∙◌, arith}
 use Rattle.std.proofs.lemmas.List.{get_or_read}
 use Rattle.std.proofs.lemmas.Bool.{cond-true, cond-false, lt-ltb, le-ltb}
 use Rattle.keys.specs.Compared.{compared}
-use Rattle.table.specs.declared.steps.Place.{Place}
-use Rattle.table.specs.declared.steps.Place.TheVariants.{Found, Free}
 use Rattle.table.specs.Locating.{middle, half, halved, order_at}
 
 module _ (order : ℕ → Ordering) where
@@ -13,19 +11,19 @@ module _ (order : ℕ → Ordering) where
   unfolding halved
   halved_turn turns low high lt = cond-true (ltb low high) _ _ (lt-ltb low high lt)
 
-  pub halved_end : (turns low high : ℕ) → high ≤ low → halved order turns low high ≡ Free low
+  pub halved_end : (turns low high : ℕ) → high ≤ low → halved order turns low high ≡ Err low
   unfolding halved
   halved_end zero low high le = refl
   halved_end (suc turns) low high le = cond-false (ltb low high) _ _ (le-ltb low high le)
 
   -- the places from low to high that are left have the whole table's answer
-  pub record Left (answer : Place) (end low high : ℕ) : Type 0 where
+  pub record Left (answer : Result ℕ ℕ) (end low high : ℕ) : Type 0 where
     pub turns : ℕ
     pub enough : high ≤ low + turns
     pub within : high ≤ end
     pub ahead : halved order turns low high ≡ answer
 
-  module _ (answer : Place) (end low high : ℕ) (left : Left answer end low high) where
+  module _ (answer : Result ℕ ℕ) (end low high : ℕ) (left : Left answer end low high) where
     module _ (lt : low < high) where
       -- what the middle place decides
       turned : answer ≡ half (order (middle low high)) (middle low high) (halved order (left.turns - 1) (middle low high + 1) high) (halved order (left.turns - 1) low (middle low high))
@@ -49,10 +47,10 @@ module _ (order : ℕ → Ordering) where
         ahead = sym (turned ∙ ap (λ o. half o (middle low high) (halved order (left.turns - 1) (middle low high + 1) high) (halved order (left.turns - 1) low (middle low high))) is);
       }
 
-      pub left_found : order (middle low high) ≡ Equal → Found (middle low high) ≡ answer
+      pub left_found : order (middle low high) ≡ Equal → Ok (middle low high) ≡ answer
       left_found is = sym (turned ∙ ap (λ o. half o (middle low high) (halved order (left.turns - 1) (middle low high + 1) high) (halved order (left.turns - 1) low (middle low high))) is)
 
-    pub left_none : high ≤ low → Free low ≡ answer
+    pub left_none : high ≤ low → Err low ≡ answer
     left_none le = sym (halved_end left.turns low high le) ∙ left.ahead
 
   pub left_all : (n end : ℕ) → n ≡ end → Left (halved order n 0 n) end 0 end

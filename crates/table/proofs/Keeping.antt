@@ -1,5 +1,5 @@
 -- Changes keep a table in order. Assumes nothing.
-use Rattle.std.proofs.Common.{◌≡◌, ℕ, suc, ◌+◌, ◌-◌, ◌<◌, ◌≤◌, true, List, ◌∷◌, ◌++◌, length, get_or, take, drop, set, replicate, sym, ap, ◌∙◌, subst, ⊎_elim, arith}
+use Rattle.std.proofs.Common.{Err, ◌≡◌, ℕ, suc, ◌+◌, ◌-◌, ◌<◌, ◌≤◌, true, List, ◌∷◌, ◌++◌, length, get_or, take, drop, set, replicate, sym, ap, ◌∙◌, subst, ⊎_elim, arith}
 use lib.Seq.{take-set-lt}
 use lib.ListN.{length-replicate}
 use Rattle.std.specs.List.{insert, remove}
@@ -7,7 +7,6 @@ use Rattle.std.proofs.lemmas.List.Edits.{length-insert, get_or-insert_below, get
 use Rattle.std.proofs.lemmas.List.{length-take-le, length-set, get_or-take, get_or-set_same, get_or-set_other, take-append-drop, drop-drop, drop-set-lt, drop-replicate}
 use Rattle.std.proofs.lemmas.Bool.{cases_lt, cases_eq, cases_order}
 use Rattle.units.specs.Order.{earlier}
-use Rattle.table.specs.declared.steps.Place.TheVariants.{Free}
 use Rattle.table.specs.Changing.{put_in, taken_out}
 use Rattle.table.specs.Locating.{located}
 use Rattle.table.specs.Order.{Rising, Ordered, Between, Told, InOrder}
@@ -89,10 +88,10 @@ module _ {R : Type 0} (digits : R → List ℕ) (blank : R) where
     long = length-take-le n xs ordered.within
 
     -- a free place lies between earlier and later keys
-    pub free_between : (k : List ℕ) → located digits blank xs n k ≡ Free p → Between digits blank (take n xs) k p
+    pub free_between : (k : List ℕ) → located digits blank xs n k ≡ Err p → Between digits blank (take n xs) k p
     free_between k free = subst (Told digits blank (take n xs) k) free (located_tells digits blank xs n k ordered.rising)
 
-    pub insert_keeps : (r : R) → n < length xs → located digits blank xs n (digits r) ≡ Free p → Ordered digits blank (put_in xs n p r) (n + 1)
+    pub insert_keeps : (r : R) → n < length xs → located digits blank xs n (digits r) ≡ Err p → Ordered digits blank (put_in xs n p r) (n + 1)
     insert_keeps r lt free =
         let between = free_between (digits r) free in
         let le : p ≤ n = omega (arith, between.within, long) in
@@ -128,7 +127,7 @@ module _ {R : Type 0} (digits : R → List ℕ) (blank : R) where
         }
 
     -- the same with the records that there are then
-    pub insert_in_order : (r : R) → n < length xs → located digits blank xs n (digits r) ≡ Free p → InOrder digits blank (put_in xs n p r) (n + 1) (take p xs ++ r ∷ drop p (take n xs))
+    pub insert_in_order : (r : R) → n < length xs → located digits blank xs n (digits r) ≡ Err p → InOrder digits blank (put_in xs n p r) (n + 1) (take p xs ++ r ∷ drop p (take n xs))
     insert_in_order r lt free =
         let between = free_between (digits r) free in
         record { ordered = insert_keeps r lt free; records = put_in_records xs n p r (omega (arith, between.within, long)) lt }

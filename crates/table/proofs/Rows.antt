@@ -1,8 +1,7 @@
 -- Records that rise, for inductions over the list. Assumes nothing.
-use Rattle.std.proofs.Common.{◌≡◌, ℕ, zero, suc, ◌+◌, ◌<◌, true, List, ◌∷◌, ◌++◌, length, get_or, sym, ◌∙◌, arith}
+use Rattle.std.proofs.Common.{Ok, ◌≡◌, ℕ, zero, suc, ◌+◌, ◌<◌, true, List, ◌∷◌, ◌++◌, length, get_or, sym, ◌∙◌, arith}
 use Rattle.std.proofs.lemmas.List.{get_or_at, get_or_append_left, get_or-append-add, length-append}
 use Rattle.units.specs.Order.{earlier}
-use Rattle.table.specs.declared.steps.Place.TheVariants.{Found}
 use Rattle.table.specs.Order.{Rising}
 use Rattle.table.proofs.Again.{told_once}
 
@@ -10,7 +9,7 @@ module _ {R : Type 0} (digits : R → List ℕ) (blank : R) where
   -- no two places have one key
   pub key_once : (rs : List R) → Rising digits blank rs → (i j : ℕ) → i < length rs → j < length rs → digits (get_or rs i blank) ≡ digits (get_or rs j blank) → i ≡ j
   key_once rs rising i j lti ltj alike =
-      let found : Found i ≡ Found j = told_once digits blank rs (digits (get_or rs j blank)) rising (Found i) (Found j) (lti, alike) (ltj, λ m. digits (get_or rs j blank)) in
+      let found : Ok i ≡ Ok j = told_once digits blank rs (digits (get_or rs j blank)) rising (Ok i) (Ok j) (lti, alike) (ltj, λ m. digits (get_or rs j blank)) in
       cc
 
   pub rising_tail : (r : R) (rs : List R) → Rising digits blank (r ∷ rs) → Rising digits blank rs

@@ -1,28 +1,26 @@
 -- Where a key stands in a table, by halving: a meaning on any content, in order or not. Assumes nothing.
-use Rattle.std.specs.Prelude.{ℕ, zero, suc, ◌+◌, ◌-◌, ◌/◌, min, cond, List, length, ◌==◌, nat_lt, slice_index_or}
+use Rattle.std.specs.Prelude.{Ok, Err, Result, ℕ, zero, suc, ◌+◌, ◌-◌, ◌/◌, min, cond, List, length, ◌==◌, nat_lt, slice_index_or}
 use Rattle.std.specs.declared.cmp.Ordering.TheVariants.{Less, Equal, Greater}
 use Rattle.std.specs.declared.cmp.Ordering.{Ordering}
 use Rattle.keys.specs.Compared.{compared}
-use Rattle.table.specs.declared.steps.Place.{Place}
-use Rattle.table.specs.declared.steps.Place.TheVariants.{Found, Free}
 
 abbrev pub middle : ℕ → ℕ → ℕ
 middle low high = low + (high - low) / 2
 
 -- the place at the middle, or what the half above or below it answers
-abbrev pub half : Ordering → ℕ → Place → Place → Place
+abbrev pub half : Ordering → ℕ → Result ℕ ℕ → Result ℕ ℕ → Result ℕ ℕ
 half Less at above below = above
-half Equal at above below = Found at
+half Equal at above below = Ok at
 half Greater at above below = below
 
 -- how each place compares with the key sought, in at most so many turns
 module _ (order : ℕ → Ordering) where
-  unfoldable pub halved : ℕ → ℕ → ℕ → Place
-  halved zero low high = Free low
+  unfoldable pub halved : ℕ → ℕ → ℕ → Result ℕ ℕ
+  halved zero low high = Err low
   halved (suc turns) low high =
       cond (nat_lt low high)
       (half (order (middle low high)) (middle low high) (halved turns (middle low high + 1) high) (halved turns low (middle low high)))
-      (Free low)
+      (Err low)
 
 module _ {R : Type 0} (digits : R → List ℕ) (blank : R) where
   -- how the record at a place compares with a key
@@ -30,10 +28,10 @@ module _ {R : Type 0} (digits : R → List ℕ) (blank : R) where
   order_at xs k i = compared (digits (slice_index_or xs i blank)) k
 
   -- the place of the key among the first n records, or where it would go
-  abbrev pub located : List R → ℕ → List ℕ → Place
+  abbrev pub located : List R → ℕ → List ℕ → Result ℕ ℕ
   located xs n k = halved (order_at xs k) (min n (length xs)) 0 (min n (length xs))
 
 -- where the answer of a look-up stands once the record at place p is taken out
-abbrev pub after_taking : ℕ → Place → Place
-after_taking p (Found i) = cond (i == p) (Free p) (Found (cond (nat_lt p i) (i - 1) i))
-after_taking p (Free q) = Free (cond (nat_lt p q) (q - 1) q)
+abbrev pub after_taking : ℕ → Result ℕ ℕ → Result ℕ ℕ
+after_taking p (Ok i) = cond (i == p) (Err p) (Ok (cond (nat_lt p i) (i - 1) i))
+after_taking p (Err q) = Err (cond (nat_lt p q) (q - 1) q)

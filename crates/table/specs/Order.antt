@@ -1,8 +1,6 @@
 -- A table in order, and what that gives. Assumes nothing.
-use Rattle.std.specs.Prelude.{◌≡◌, ℕ, suc, ◌+◌, ◌-◌, ◌<◌, ◌≤◌, true, List, ◌∷◌, ◌++◌, length, take, drop, replicate, slice_index_or}
+use Rattle.std.specs.Prelude.{Ok, Err, Result, ◌≡◌, ℕ, suc, ◌+◌, ◌-◌, ◌<◌, ◌≤◌, true, List, ◌∷◌, ◌++◌, length, take, drop, replicate, slice_index_or}
 use Rattle.units.specs.Order.{earlier}
-use Rattle.table.specs.declared.steps.Place.{Place}
-use Rattle.table.specs.declared.steps.Place.TheVariants.{Found, Free}
 use Rattle.table.specs.Changing.{used, put_in}
 use Rattle.table.specs.Locating.{halved, order_at, located}
 
@@ -24,12 +22,12 @@ module _ {R : Type 0} (digits : R → List ℕ) (blank : R) where
     pub after : (i : ℕ) → p ≤ i → i < length rs → earlier k (digits (slice_index_or rs i blank)) ≡ true
 
   -- what a place found, or a free one, says of the records
-  abbrev pub Told : List R → List ℕ → Place → Type 0
-  Told rs k (Found i) = (i < length rs) × (digits (slice_index_or rs i blank) ≡ k)
-  Told rs k (Free p) = Between rs k p
+  abbrev pub Told : List R → List ℕ → Result ℕ ℕ → Type 0
+  Told rs k (Ok i) = (i < length rs) × (digits (slice_index_or rs i blank) ≡ k)
+  Told rs k (Err p) = Between rs k p
 
   -- what a look-up answers: of records that rise, what is there; of at most 32,768, after at most 16 comparisons
-  pub record Finds (xs : List R) (n : ℕ) (k : List ℕ) (place : Place) : Type 0 where
+  pub record Finds (xs : List R) (n : ℕ) (k : List ℕ) (place : Result ℕ ℕ) : Type 0 where
     pub told : Rising (take n xs) → Told (take n xs) k place
     pub brief : used xs n ≤ 32768 → place ≡ halved (order_at digits blank xs k) 16 0 (used xs n)
 
@@ -41,7 +39,7 @@ module _ {R : Type 0} (digits : R → List ℕ) (blank : R) where
   -- Changes of a table in order: xs before and ys after, with n records before.
   -- A record put in at the free place of its key
   abbrev pub InsertsInOrder : List R → ℕ → ℕ → R → List R → Type 0
-  InsertsInOrder xs n p r ys = Ordered xs n → located digits blank xs n (digits r) ≡ Free p → InOrder ys (n + 1) (take p xs ++ r ∷ drop p (take n xs))
+  InsertsInOrder xs n p r ys = Ordered xs n → located digits blank xs n (digits r) ≡ Err p → InOrder ys (n + 1) (take p xs ++ r ∷ drop p (take n xs))
 
   -- a record put in the place of another of the same key
   abbrev pub ReplacesInOrder : List R → ℕ → ℕ → R → List R → Type 0

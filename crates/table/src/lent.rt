@@ -1,12 +1,11 @@
 // A table over a slice that its caller lends and gets back whole.
-ghost use Rattle.std.specs.Prelude.{◌≡◌, ℕ, ◌+◌, ◌-◌, true, length, replicate, if◌then◌else◌, slice_index_or};
+ghost use Rattle.std.specs.Prelude.{Ok, ◌≡◌, ℕ, ◌+◌, ◌-◌, true, length, replicate, if◌then◌else◌, slice_index_or};
 ghost use Rattle.table.specs.Changing.{used, holds, has_room, read_at, after_insert, after_replace, after_remove};
 ghost use Rattle.table.specs.Locating.{located};
 ghost use Rattle.table.specs.Order.{Ordered, Finds, InsertsInOrder, ReplacesInOrder, RemovesInOrder, RemovesWhatWasPutIn};
 
 use crate::record::Record;
 use crate::steps;
-use crate::steps::Place;
 use keys::key::Key;
 
 // The most places of a table; the fewest is one.
@@ -37,10 +36,10 @@ impl<'a, R: Record> Table<'a, R> {
         self.count.min(self.slots.len())
     }
 
-    pub fn locate(&self, key: R::Key) -> Place
+    pub fn locate(&self, key: R::Key) -> Result<usize, usize>
         ensures is { result ≡ located (λ x. R.Key.Key.digits (R.keyed x)) R.unused self.now.slots.now self.now.count (R.Key.Key.digits key) }
         ensures finds { Finds (λ x. R.Key.Key.digits (R.keyed x)) R.unused self.now.slots.now self.now.count (R.Key.Key.digits key) result }
-        ensures found { (i : ℕ) → result ≡ Place.Found i → R.keyed (slice_index_or self.now.slots.now i R.unused) ≡ key }
+        ensures found { (i : ℕ) → result ≡ Ok i → R.keyed (slice_index_or self.now.slots.now i R.unused) ≡ key }
     {
         let count = self.count;
         steps::locate(self.slots, count, key)

@@ -1,5 +1,5 @@
 // Steps over the slice of a table and the count of its records. Each works on any slice and any count.
-ghost use Rattle.std.specs.Prelude.{◌≡◌, ℕ, ◌+◌, ◌-◌, ◌<◌, ◌≤◌, true, length, drop, replicate, slice_index_or, slice_set};
+ghost use Rattle.std.specs.Prelude.{Ok, ◌≡◌, ℕ, ◌+◌, ◌-◌, ◌<◌, ◌≤◌, true, length, drop, replicate, slice_index_or, slice_set};
 ghost use Rattle.std.proofs.Math.Seq.{paste};
 ghost use Rattle.table.specs.Changing.{used, holds, has_room, put_in, taken_out, read_at, after_insert, after_replace, after_remove};
 ghost use Rattle.table.specs.Locating.{located};
@@ -9,19 +9,12 @@ use crate::record::Record;
 use keys::key::Key;
 use std::cmp::Ordering;
 
-// Where a key stands, or where a record of that key would go.
-#[derive(Clone, Copy)]
-pub enum Place {
-    Found(usize),
-    Free(usize),
-}
-
 // Halves the places that may still hold the key, with one comparison each time.
-fn halve<R: Record>(slots: &[R], end: usize, key: R::Key) -> Place
+fn halve<R: Record>(slots: &[R], end: usize, key: R::Key) -> Result<usize, usize>
     requires { end ≤ length slots.now }
     ensures is { (n : ℕ) → end ≡ used slots.now n → result ≡ located (λ x. R.Key.Key.digits (R.keyed x)) R.unused slots.now n (R.Key.Key.digits key) }
     ensures finds { (n : ℕ) → end ≡ used slots.now n → Finds (λ x. R.Key.Key.digits (R.keyed x)) R.unused slots.now n (R.Key.Key.digits key) result }
-    ensures found { (i : ℕ) → result ≡ Place.Found i → R.keyed (slice_index_or slots.now i R.unused) ≡ key }
+    ensures found { (i : ℕ) → result ≡ Ok i → R.keyed (slice_index_or slots.now i R.unused) ≡ key }
 {
     let mut low = 0;
     let mut high = end;
@@ -29,18 +22,18 @@ fn halve<R: Record>(slots: &[R], end: usize, key: R::Key) -> Place
         let middle = low + (high - low) / 2;
         match slots[middle].key().compare(&key) {
             Ordering::Less => low = middle + 1,
-            Ordering::Equal => return Place::Found(middle),
+            Ordering::Equal => return Ok(middle),
             Ordering::Greater => high = middle,
         }
     }
-    Place::Free(low)
+    Err(low)
 }
 
 // Where a key stands among the first records, or where it belongs. Of 32,768 records it compares at most 16.
-pub fn locate<R: Record>(slots: &[R], count: usize, key: R::Key) -> Place
+pub fn locate<R: Record>(slots: &[R], count: usize, key: R::Key) -> Result<usize, usize>
     ensures is { result ≡ located (λ x. R.Key.Key.digits (R.keyed x)) R.unused slots.now count (R.Key.Key.digits key) }
     ensures finds { Finds (λ x. R.Key.Key.digits (R.keyed x)) R.unused slots.now count (R.Key.Key.digits key) result }
-    ensures found { (i : ℕ) → result ≡ Place.Found i → R.keyed (slice_index_or slots.now i R.unused) ≡ key }
+    ensures found { (i : ℕ) → result ≡ Ok i → R.keyed (slice_index_or slots.now i R.unused) ≡ key }
 {
     halve(slots, count.min(slots.len()), key)
 }

@@ -1,4 +1,5 @@
 // A record with a pair of States for its key.
+use keys::key::Key;
 use keys::kinds::StatePair;
 use table::record::Record;
 
@@ -32,10 +33,7 @@ impl Record for Row {
 
     fn blank() -> Row {
         Row {
-            pair: StatePair {
-                departure: 0,
-                arrival: 0,
-            },
+            pair: StatePair::blank(),
             amount: 0,
         }
     }

@@ -3,65 +3,53 @@ use crate::rows::{Row, made, pair};
 use std::process::Abort;
 use table::lent::Table;
 use table::record::Record;
-use table::steps::{Place, clear, insert, locate, read, remove, replace};
+use table::steps::{clear, insert, locate, read, remove, replace};
 
-// The place found, or 100 more than the free one.
-fn place_of(slots: &[Row], count: usize, departure: u16, arrival: u16) -> usize {
-    match locate(slots, count, pair(departure, arrival)) {
-        Place::Found(place) => place,
-        Place::Free(place) => place.saturating_add(100),
-    }
+fn place_of(slots: &[Row], count: usize, departure: u16, arrival: u16) -> Result<usize, usize> {
+    locate(slots, count, pair(departure, arrival))
 }
 
-// The amount at a place, or 0.
-fn amount(slots: &[Row], count: usize, place: usize) -> u32 {
-    match read(slots, count, place) {
-        Some(row) => row.amount,
-        None => 0,
-    }
+fn amount(slots: &[Row], count: usize, place: usize) -> Option<u32> {
+    read(slots, count, place).map(|row| row.amount)
 }
 
-// Puts a record in where it belongs; the new count, or 100 where it was refused.
-fn enter(slots: &mut [Row], count: usize, new: Row) -> usize {
-    match locate(slots, count, new.key()) {
-        Place::Found(_) => 100,
-        Place::Free(place) => {
-            if insert(slots, count, place, new) {
-                count.saturating_add(1)
-            } else {
-                100
-            }
-        }
+// Puts a record in where it belongs: the new count, or nothing where it was refused.
+fn enter(slots: &mut [Row], count: usize, new: Row) -> Option<usize> {
+    let place = locate(slots, count, new.key()).err()?;
+    if insert(slots, count, place, new) {
+        count.checked_add(1)
+    } else {
+        None
     }
 }
 
 #[test]
 fn one_place(rt: HostRuntime) {
     let mut slots = [Row::blank(); 1];
-    assert_eq!(rt; place_of(&slots, 0, 7, 7), 100);
-    assert_eq!(rt; enter(&mut slots, 0, made(7, 7, 70)), 1);
-    assert_eq!(rt; enter(&mut slots, 1, made(7, 7, 71)), 100);
-    assert_eq!(rt; enter(&mut slots, 1, made(8, 7, 80)), 100);
-    assert_eq!(rt; place_of(&slots, 1, 7, 6), 100);
-    assert_eq!(rt; place_of(&slots, 1, 7, 7), 0);
-    assert_eq!(rt; place_of(&slots, 1, 7, 8), 101);
+    assert_eq!(rt; place_of(&slots, 0, 7, 7), Err(0));
+    assert_eq!(rt; enter(&mut slots, 0, made(7, 7, 70)), Some(1));
+    assert_eq!(rt; enter(&mut slots, 1, made(7, 7, 71)), None);
+    assert_eq!(rt; enter(&mut slots, 1, made(8, 7, 80)), None);
+    assert_eq!(rt; place_of(&slots, 1, 7, 6), Err(0));
+    assert_eq!(rt; place_of(&slots, 1, 7, 7), Ok(0));
+    assert_eq!(rt; place_of(&slots, 1, 7, 8), Err(1));
     assert!(rt; remove(&mut slots, 1, 0));
     assert!(rt; !remove(&mut slots, 0, 0));
-    assert_eq!(rt; amount(&slots, 1, 0), 0);
+    assert_eq!(rt; amount(&slots, 1, 0), Some(0));
 }
 
 #[test]
 fn two_places(rt: HostRuntime) {
     let mut slots = [Row::blank(); 2];
-    assert_eq!(rt; enter(&mut slots, 0, made(2, 1, 21)), 1);
-    assert_eq!(rt; enter(&mut slots, 1, made(1, 2, 12)), 2);
-    assert_eq!(rt; place_of(&slots, 2, 1, 2), 0);
-    assert_eq!(rt; place_of(&slots, 2, 2, 1), 1);
+    assert_eq!(rt; enter(&mut slots, 0, made(2, 1, 21)), Some(1));
+    assert_eq!(rt; enter(&mut slots, 1, made(1, 2, 12)), Some(2));
+    assert_eq!(rt; place_of(&slots, 2, 1, 2), Ok(0));
+    assert_eq!(rt; place_of(&slots, 2, 2, 1), Ok(1));
     assert!(rt; replace(&mut slots, 2, 1, made(2, 1, 22)));
     assert!(rt; !replace(&mut slots, 2, 2, made(3, 1, 31)));
     assert!(rt; remove(&mut slots, 2, 0));
-    assert_eq!(rt; amount(&slots, 2, 0), 22);
-    assert_eq!(rt; amount(&slots, 2, 1), 0);
+    assert_eq!(rt; amount(&slots, 2, 0), Some(22));
+    assert_eq!(rt; amount(&slots, 2, 1), Some(0));
 }
 
 // Enters the States 0, 2 .. 14, in mixed order.
@@ -69,7 +57,7 @@ fn fill_up(rt: &impl Abort, slots: &mut [Row]) {
     for i in 0..8u16 {
         let state = i * 3 % 8;
         let new = made(state * 2, 5, state as u32 + 1);
-        assert_eq!(rt; enter(slots, i as usize, new), i as usize + 1);
+        assert_eq!(rt; enter(slots, i as usize, new), Some(i as usize + 1));
     }
 }
 
@@ -77,9 +65,9 @@ fn fill_up(rt: &impl Abort, slots: &mut [Row]) {
 fn find_all(rt: &impl Abort, slots: &[Row]) {
     for i in 0..8u16 {
         let place = i as usize;
-        assert_eq!(rt; place_of(slots, 8, i * 2, 5), place);
-        assert_eq!(rt; place_of(slots, 8, i * 2, 6), place + 101);
-        assert_eq!(rt; amount(slots, 8, place), i as u32 + 1);
+        assert_eq!(rt; place_of(slots, 8, i * 2, 5), Ok(place));
+        assert_eq!(rt; place_of(slots, 8, i * 2, 6), Err(place + 1));
+        assert_eq!(rt; amount(slots, 8, place), Some(i as u32 + 1));
     }
 }
 
@@ -88,15 +76,15 @@ fn a_full_table(rt: HostRuntime) {
     let mut slots = [Row::blank(); 8];
     fill_up(&rt, &mut slots);
     find_all(&rt, &slots);
-    assert_eq!(rt; enter(&mut slots, 8, made(3, 5, 9)), 100);
+    assert_eq!(rt; enter(&mut slots, 8, made(3, 5, 9)), None);
     assert!(rt; remove(&mut slots, 8, 7));
     assert!(rt; remove(&mut slots, 7, 0));
-    assert_eq!(rt; amount(&slots, 6, 0), 2);
-    assert_eq!(rt; amount(&slots, 6, 5), 7);
-    assert_eq!(rt; amount(&slots, 8, 6), 0);
-    assert_eq!(rt; amount(&slots, 8, 7), 0);
+    assert_eq!(rt; amount(&slots, 6, 0), Some(2));
+    assert_eq!(rt; amount(&slots, 6, 5), Some(7));
+    assert_eq!(rt; amount(&slots, 8, 6), Some(0));
+    assert_eq!(rt; amount(&slots, 8, 7), Some(0));
     clear(&mut slots);
-    assert_eq!(rt; amount(&slots, 8, 3), 0);
+    assert_eq!(rt; amount(&slots, 8, 3), Some(0));
 }
 
 #[test]
@@ -107,14 +95,14 @@ fn content_out_of_order(rt: HostRuntime) {
         made(5, 5, 55),
         made(1, 1, 12),
     ];
-    assert_eq!(rt; place_of(&slots, 1_000_000, 5, 5), 2);
-    assert_eq!(rt; place_of(&slots, 4, 9, 9), 104);
-    assert_eq!(rt; place_of(&slots, 4, 1, 1), 1);
+    assert_eq!(rt; place_of(&slots, 1_000_000, 5, 5), Ok(2));
+    assert_eq!(rt; place_of(&slots, 4, 9, 9), Err(4));
+    assert_eq!(rt; place_of(&slots, 4, 1, 1), Ok(1));
     assert!(rt; !insert(&mut slots, 4, 0, made(2, 2, 22)));
     assert!(rt; !insert(&mut slots, 2, 3, made(2, 2, 22)));
     assert!(rt; remove(&mut slots, usize::MAX, 3));
-    assert_eq!(rt; amount(&slots, 4, 0), 99);
-    assert_eq!(rt; amount(&slots, 4, 3), 0);
+    assert_eq!(rt; amount(&slots, 4, 0), Some(99));
+    assert_eq!(rt; amount(&slots, 4, 3), Some(0));
 }
 
 #[test]
@@ -128,6 +116,6 @@ fn a_lent_table_gives_its_slice_back(rt: HostRuntime) {
     assert!(rt; table.remove(0));
     assert_eq!(rt; table.count(), 1);
     let back = table.back();
-    assert_eq!(rt; amount(back, 3, 0), 22);
-    assert_eq!(rt; amount(back, 3, 1), 0);
+    assert_eq!(rt; amount(back, 3, 0), Some(22));
+    assert_eq!(rt; amount(back, 3, 1), Some(0));
 }

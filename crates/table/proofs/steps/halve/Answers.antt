@@ -1,8 +1,7 @@
-use Rattle.std.proofs.Common.{◌≡◌, ℕ, ◌<◌, List, length, get_or, take, sym, ap, ◌∙◌, subst, arith}
+use Rattle.std.proofs.Common.{Equal, Result, ◌≡◌, ℕ, ◌<◌, List, length, get_or, take, sym, ap, ◌∙◌, subst, arith}
 use Rattle.std.proofs.lemmas.List.{get_or_read}
 use Rattle.keys.specs.Compared.{compared}
-use Rattle.keys.proofs.Comparing.{Tells, compared_tells}
-use Rattle.table.specs.declared.steps.Place.{Place}
+use Rattle.keys.proofs.Comparing.{compared_tells}
 use Rattle.table.specs.Changing.{used}
 use Rattle.table.specs.Locating.{middle, halved, order_at, located}
 use Rattle.table.specs.Order.{Told, Finds}
@@ -10,7 +9,7 @@ use Rattle.table.proofs.Finding.{located_tells, halved_brief}
 use Rattle.table.proofs.Halving.{left_above, left_below, left_found, left_none, order_read}
 use Rattle.table.proofs.steps.halve.Goals as goal
 
-module _ {R : Type 0} (digits : R → List ℕ) (blank : R) (xs : List R) (end : ℕ) (k : List ℕ) (r : Place) (e : r ≡ halved (order_at digits blank xs k) end 0 end) (n : ℕ) (clamped : end ≡ used xs n) where
+module _ {R : Type 0} (digits : R → List ℕ) (blank : R) (xs : List R) (end : ℕ) (k : List ℕ) (r : Result ℕ ℕ) (e : r ≡ halved (order_at digits blank xs k) end 0 end) (n : ℕ) (clamped : end ≡ used xs n) where
   answers : r ≡ located digits blank xs n k
   answers = e ∙ ap (λ m. halved (order_at digits blank xs k) m 0 m) clamped
 
@@ -38,7 +37,7 @@ returns-in-Equal g c =
     left_found _ _ _ _ _ c.loop-low.invariant c.loop-low-test.true
     (order_read (λ x. D (g.R.Record.keyed x)) g.R.Record.unused c.args.slots.now (D c.args.key) at _ inside c.index-slots-middle.is _
     (c.in-Equal.ensures.is ∙ ap (λ k. compared (D k) (D c.args.key)) c.key.ensures)) in
-    let alike = subst (Tells (D c.key.result) (D c.args.key)) (sym c.in-Equal.ensures.is) (compared_tells (D c.key.result) (D c.args.key)) in
+    let alike = compared_tells (D c.key.result) (D c.args.key) Equal (sym c.in-Equal.ensures.is) in
     let very = g.R.Key.Key.told c.key.result c.args.key c.in-Equal.ensures.sized.0 c.in-Equal.ensures.sized.1 alike in
     record {
       is = answers (λ x. D (g.R.Record.keyed x)) g.R.Record.unused c.args.slots.now c.args.end (D c.args.key) _ e;
