@@ -9,13 +9,12 @@ pub trait Grouping {
     // Its keys, with their total order.
     type Key: Key;
 
-    ghost number: { ℕ };
+    // The number of its table.
+    ghost TABLE: { ℕ };
+
+    const TABLE: usize;
 
     ghost grouped: { WorkedEntry → Self.Key };
-
-    // The number of its table.
-    fn table() -> usize
-        ensures { result ≡ number };
 
     // The key under which an entry is summed up.
     fn key(worked: &WorkedEntry) -> Self::Key

@@ -5,32 +5,23 @@ use crate::grouping::Grouping;
 use keys::kinds::{AerodromePair, AeroplaneType, StatePair};
 use units::worked::WorkedEntry;
 
-// The numbers of the tables.
-const STATE_PAIRS: usize = 1;
+#[derive(Clone, Copy, Debug)]
+pub struct ByStates;
 
-const AERODROME_PAIRS: usize = 2;
+#[derive(Clone, Copy, Debug)]
+pub struct ByAerodromes;
 
-const TYPES: usize = 3;
-
-#[derive(Clone, Copy)]
-pub struct ByStates {}
-
-#[derive(Clone, Copy)]
-pub struct ByAerodromes {}
-
-#[derive(Clone, Copy)]
-pub struct ByType {}
+#[derive(Clone, Copy, Debug)]
+pub struct ByType;
 
 impl Grouping for ByStates {
     type Key = StatePair;
 
-    ghost number = { 1 };
+    ghost TABLE = { 1 };
+
+    const TABLE: usize = 1;
 
     ghost grouped = { by_states };
-
-    fn table() -> usize {
-        STATE_PAIRS
-    }
 
     fn key(worked: &WorkedEntry) -> StatePair {
         StatePair {
@@ -43,13 +34,11 @@ impl Grouping for ByStates {
 impl Grouping for ByAerodromes {
     type Key = AerodromePair;
 
-    ghost number = { 2 };
+    ghost TABLE = { 2 };
+
+    const TABLE: usize = 2;
 
     ghost grouped = { by_aerodromes };
-
-    fn table() -> usize {
-        AERODROME_PAIRS
-    }
 
     fn key(worked: &WorkedEntry) -> AerodromePair {
         AerodromePair {
@@ -62,13 +51,11 @@ impl Grouping for ByAerodromes {
 impl Grouping for ByType {
     type Key = AeroplaneType;
 
-    ghost number = { 3 };
+    ghost TABLE = { 3 };
+
+    const TABLE: usize = 3;
 
     ghost grouped = { by_type };
-
-    fn table() -> usize {
-        TYPES
-    }
 
     fn key(worked: &WorkedEntry) -> AeroplaneType {
         AeroplaneType {

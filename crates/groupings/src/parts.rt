@@ -1,6 +1,6 @@
 // The part that an entry has in a sum table.
 ghost use Rattle.std.specs.Prelude.{◌≡◌};
-ghost use Rattle.groupings.specs.Groups.{amounts_of, part_of};
+ghost use Rattle.groupings.specs.Groups.{part_of};
 
 use crate::grouping::Grouping;
 use keys::key::Key;
@@ -8,25 +8,16 @@ use sums::amounts::Amounts;
 use sums::rows::Row;
 use units::worked::WorkedEntry;
 
-fn amounts(worked: &WorkedEntry) -> Amounts
-    ensures { result ≡ amounts_of worked.now }
-{
-    Amounts {
-        flights: worked.entry.flights,
-        fuel: worked.fuel,
-        co2: worked.co2,
-    }
-}
-
 // The row that an entry adds to a table of its grouping; none where its flights are exempt.
 pub fn part<G: Grouping>(worked: &WorkedEntry) -> Option<Row<G::Key>>
     ensures { result ≡ part_of G.grouped worked.now }
 {
-    if worked.entry.exempt {
-        return None;
-    }
-    Some(Row {
+    (!worked.entry.exempt).then(|| Row {
         key: G::key(worked),
-        amounts: amounts(worked),
+        amounts: Amounts {
+            flights: worked.entry.flights,
+            fuel: worked.fuel,
+            co2: worked.co2,
+        },
     })
 }

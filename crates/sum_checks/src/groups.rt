@@ -2,7 +2,9 @@
 use groupings::grouping::Grouping;
 use groupings::kinds::{ByAerodromes, ByStates, ByType};
 use groupings::parts::part;
-use std::test::Fail;
+use keys::kinds::{AerodromePair, AeroplaneType, StatePair};
+use sums::amounts::Amounts;
+use sums::rows::Row;
 use units::codes::{AerodromeCode, Designator};
 use units::entries::Entry;
 use units::measures::{Kind, Measure};
@@ -37,48 +39,59 @@ fn worked(exempt: bool) -> WorkedEntry {
 }
 
 #[test]
-fn keys_run_from_departure_to_arrival(rt: HostRuntime) -> Result<(), Fail> {
+fn keys_run_from_departure_to_arrival(rt: HostRuntime) {
     let entry = worked(false);
-    match (
+    let amounts = Amounts {
+        flights: 10,
+        fuel: 20_020_000,
+        co2: 6_326_320_000,
+    };
+    let states = StatePair {
+        departure: 2,
+        arrival: 1,
+    };
+    let aerodromes = AerodromePair {
+        departure: AerodromeCode { bytes: *b"BBBB" },
+        arrival: AerodromeCode { bytes: *b"AAAA" },
+    };
+    let by_type = AeroplaneType {
+        designator: Designator { bytes: *b"GL7T" },
+    };
+    assert_eq!(rt;
         part::<ByStates>(&entry),
+        Some(Row {
+            key: states,
+            amounts
+        })
+    );
+    assert_eq!(rt;
         part::<ByAerodromes>(&entry),
+        Some(Row {
+            key: aerodromes,
+            amounts
+        })
+    );
+    assert_eq!(rt;
         part::<ByType>(&entry),
-    ) {
-        (Some(states), Some(aerodromes), Some(by_type)) => {
-            assert_eq!(rt; (states.key.departure, states.key.arrival), (2, 1));
-            assert_eq!(rt;
-                (
-                    states.amounts.flights,
-                    states.amounts.fuel,
-                    states.amounts.co2,
-                ),
-                (10, 20_020_000, 6_326_320_000)
-            );
-            assert!(rt;
-                &aerodromes.key.departure.bytes == b"BBBB"
-                    && &aerodromes.key.arrival.bytes == b"AAAA"
-            );
-            assert!(rt; &by_type.key.designator.bytes == b"GL7T");
-            Ok(())
-        }
-        _ => Err(Fail::new("a part is missing")),
-    }
+        Some(Row {
+            key: by_type,
+            amounts
+        })
+    );
 }
 
 #[test]
 fn an_exempt_entry_is_in_no_table(rt: HostRuntime) {
     let entry = worked(true);
-    assert!(rt;
-        part::<ByStates>(&entry).is_none()
-            && part::<ByAerodromes>(&entry).is_none()
-            && part::<ByType>(&entry).is_none()
-    );
+    assert_eq!(rt; part::<ByStates>(&entry), None);
+    assert_eq!(rt; part::<ByAerodromes>(&entry), None);
+    assert_eq!(rt; part::<ByType>(&entry), None);
 }
 
 #[test]
 fn tables_have_numbers(rt: HostRuntime) {
     assert_eq!(rt;
-        (ByStates::table(), ByAerodromes::table(), ByType::table()),
+        (ByStates::TABLE, ByAerodromes::TABLE, ByType::TABLE),
         (1, 2, 3)
     );
 }

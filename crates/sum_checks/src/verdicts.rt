@@ -7,7 +7,7 @@ use totals::totals::{Totals, total};
 use totals::verdicts::judge;
 
 fn letter(year: u16, departure: u16, arrival: u16) -> char {
-    class_of(year, &[1, 1, 0], StatePair { departure, arrival }).letter()
+    class_of(year, &[1, 1, 0], StatePair { departure, arrival }).into()
 }
 
 // The verdict's number for international and subject CO2 in hundredths of a gram.
@@ -17,7 +17,7 @@ fn number(year: u16, international: u128, subject: u128) -> u32 {
         subject,
         domestic: 0,
     };
-    judge(year, totals).number()
+    judge(year, totals).into()
 }
 
 #[test]
@@ -58,13 +58,21 @@ fn totals_by_class(rt: HostRuntime) {
     };
     let sums = total(2023, &[1, 1], &[domestic, row, foreign, row], 3);
     assert_eq!(rt;
-        (sums.international, sums.subject, sums.domestic),
-        (632, 316, 316)
+        sums,
+        Totals {
+            international: 632,
+            subject: 316,
+            domestic: 316,
+        }
     );
     let early = total(2020, &[1, 1], &[domestic, row, foreign, row], 9);
     assert_eq!(rt;
-        (early.international, early.subject, early.domestic),
-        (948, 0, 316)
+        early,
+        Totals {
+            international: 948,
+            subject: 0,
+            domestic: 316,
+        }
     );
 }
 

@@ -1,4 +1,5 @@
 pub mod Balance
+pub mod Places
 pub mod Reading
 pub mod Swapping
 pub mod Undoing

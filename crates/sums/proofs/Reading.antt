@@ -1,5 +1,5 @@
 -- What a table in order has under each key: that fixes the table, and changes change it at one key. Assumes nothing.
-use Rattle.std.proofs.Common.{◌≡◌, ℕ, zero, suc, ◌+◌, ◌-◌, ◌<◌, ◌≤◌, true, cond, eqb, ltb, ◌⊎◌, List, [], ◌∷◌, ◌++◌, length, get_or, take, drop, set, replicate, Some, None, Option, sym, refl, ap, ◌∙◌, subst, inl, inr, ⊎_elim, arith}
+use Rattle.std.proofs.Common.{◌≡◌, ℕ, zero, suc, ◌+◌, ◌-◌, ◌<◌, ◌≤◌, true, cond, eqb, ltb, ◌⊎◌, List, [], ◌∷◌, ◌++◌, length, get_or, take, drop, set, replicate, Some, None, Option, sym, refl, ap, ◌∙◌, subst, inl, inr, ⊎_elim, arith, Ok, Err, Result}
 use Rattle.std.specs.List.{insert}
 use Rattle.std.proofs.lemmas.List.Edits.{get_or-insert_below, get_or-insert_at, get_or-insert_above}
 use Rattle.std.proofs.lemmas.List.{length-take-le, get_or-take, get_or-set_same, get_or-set_other, take-append-drop}
@@ -10,8 +10,6 @@ use Rattle.keys.proofs.Comparing.{earlier_not_later}
 use Rattle.table.specs.Changing.{put_in}
 use Rattle.table.specs.Locating.{located, after_taking}
 use Rattle.table.specs.Order.{Rising, Ordered, Told}
-use Rattle.table.specs.declared.steps.Place.{Place}
-use Rattle.table.specs.declared.steps.Place.TheVariants.{Found, Free}
 use Rattle.table.proofs.Contents.{put_in_inserted}
 use Rattle.table.proofs.Finding.{located_tells}
 use Rattle.table.proofs.Keeping.{insert_keeps, remove_undoes}
@@ -72,20 +70,20 @@ module _ {R : Type 0} (digits : R → List ℕ) (blank : R) where
       λ m. heads m ∷ tails m
 
   -- the record at a place that was found
-  abbrev pub at_place : List R → Place → Option R
-  at_place xs (Found i) = Some (get_or xs i blank)
-  at_place xs (Free p) = None
+  abbrev pub at_place : List R → Result ℕ ℕ → Option R
+  at_place xs (Ok i) = Some (get_or xs i blank)
+  at_place xs (Err p) = None
 
   -- the record of a key
   abbrev pub under : List R → ℕ → List ℕ → Option R
   under xs n k = at_place xs (located digits blank xs n k)
 
-  at_some : (ys : List R) (m : ℕ) (k : List ℕ) (r : R) → m ≤ length ys → (place : Place) → Told digits blank (take m ys) k place → at_place ys place ≡ Some r → Among (take m ys) r
-  at_some ys m k r le (Found j) told e =
+  at_some : (ys : List R) (m : ℕ) (k : List ℕ) (r : R) → m ≤ length ys → (place : Result ℕ ℕ) → Told digits blank (take m ys) k place → at_place ys place ≡ Some r → Among (take m ys) r
+  at_some ys m k r le (Ok j) told e =
       let long = length-take-le m ys le in
       let is : get_or ys j blank ≡ r = cc in
       (j, told.0, get_or-take m ys j blank (omega (arith, told.0)) ∙ is)
-  at_some ys m k r le (Free p) told e = let z : ◌≡◌ {A = ℕ} 0 1 = cc in absurd (omega arith)
+  at_some ys m k r le (Err p) told e = let z : ◌≡◌ {A = ℕ} 0 1 = cc in absurd (omega arith)
 
   module _ (xs ys : List R) (n m : ℕ) (a : Ordered digits blank xs n) (b : Ordered digits blank ys m) (alike : (k : List ℕ) → under xs n k ≡ under ys m k) where
     among_other : (i : ℕ) → i < length (take n xs) → Among (take m ys) (get_or (take n xs) i blank)
@@ -117,9 +115,9 @@ module _ {R : Type 0} (digits : R → List ℕ) (blank : R) where
           ap (at_place (set xs p r)) (located_replaced digits blank xs n p r (digits r) inside keyed ∙ ap (located digits blank xs n) (sym keyed) ∙ located_present digits blank xs n ordered p lt)
           ∙ ap Some (get_or-set_same xs p r blank inside)
 
-      at_set_other : (k : List ℕ) → (k ≡ digits r → ⊥) → (place : Place) → Told digits blank (take n xs) k place → at_place (set xs p r) place ≡ at_place xs place
-      at_set_other k differs (Free q) told = refl
-      at_set_other k differs (Found i) told =
+      at_set_other : (k : List ℕ) → (k ≡ digits r → ⊥) → (place : Result ℕ ℕ) → Told digits blank (take n xs) k place → at_place (set xs p r) place ≡ at_place xs place
+      at_set_other k differs (Err q) told = refl
+      at_set_other k differs (Ok i) told =
           let long = length-take-le n xs ordered.within in
           let low : i < n = omega (arith, told.0) in
           ap Some (get_or-set_other xs p i r blank
@@ -156,22 +154,22 @@ module _ {R : Type 0} (digits : R → List ℕ) (blank : R) where
           (λ below. put_below i (omega arith) ∙ ap (λ m. get_or xs m blank) (sym (cond-false (ltb p i) (i - 1) i (le-ltb p i below))))
           (cases_lt p i)
 
-      module _ (free : located digits blank xs n (digits r) ≡ Free p) where
+      module _ (free : located digits blank xs n (digits r) ≡ Err p) where
         kept : Ordered digits blank (put_in xs n p r) (n + 1)
         kept = insert_keeps digits blank xs n p ordered r lt free
 
         pub under_put : under (put_in xs n p r) (n + 1) (digits r) ≡ Some r
         under_put = ap (at_place (put_in xs n p r)) (located_inserted digits blank xs n ordered p r lt free) ∙ ap Some put_at
 
-        at_put_other : (k : List ℕ) → (k ≡ digits r → ⊥) → (place : Place) → Told digits blank (take (n + 1) (put_in xs n p r)) k place →
+        at_put_other : (k : List ℕ) → (k ≡ digits r → ⊥) → (place : Result ℕ ℕ) → Told digits blank (take (n + 1) (put_in xs n p r)) k place →
             at_place (put_in xs n p r) place ≡ at_place xs (after_taking p place)
-        at_put_other k differs (Free q) told = refl
-        at_put_other k differs (Found i) told =
+        at_put_other k differs (Err q) told = refl
+        at_put_other k differs (Ok i) told =
             let all = length-take-le (n + 1) (put_in xs n p r) kept.within in
             let low : i < n + 1 = omega (arith, told.0) in
             let other : i ≡ p → ⊥ =
             λ e. differs (sym told.1 ∙ ap digits (get_or-take (n + 1) (put_in xs n p r) i blank low) ∙ ap (λ m. digits (get_or (put_in xs n p r) m blank)) e ∙ ap digits put_at) in
-            ap Some (moved i low other) ∙ ap (at_place xs) (sym (cond-false (eqb i p) (Free p) (Found (cond (ltb p i) (i - 1) i)) (ne_eqb i p other)))
+            ap Some (moved i low other) ∙ ap (at_place xs) (sym (cond-false (eqb i p) (Err p) (Ok (cond (ltb p i) (i - 1) i)) (ne_eqb i p other)))
 
         pub under_put_other : (k : List ℕ) → (k ≡ digits r → ⊥) → under (put_in xs n p r) (n + 1) k ≡ under xs n k
         under_put_other k differs =

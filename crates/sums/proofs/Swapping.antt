@@ -1,11 +1,9 @@
 -- Two additions leave the same rows in either order. Assumes nothing.
-use Rattle.std.proofs.Common.{◌≡◌, ℕ, ◌+◌, ◌<◌, ◌≤◌, cond, ltb, List, length, get_or, take, set, Some, None, Ok, Option, sym, refl, ap, ◌∙◌, subst, ⊎_elim, arith}
+use Rattle.std.proofs.Common.{◌≡◌, ℕ, ◌+◌, ◌<◌, ◌≤◌, cond, ltb, List, length, get_or, take, set, Some, None, Ok, Option, sym, refl, ap, ◌∙◌, subst, ⊎_elim, arith, Err, Result}
 use Rattle.std.proofs.lemmas.List.{length-set, get_or-take, length-take-le}
 use Rattle.std.proofs.lemmas.Bool.{cond-true, ltb-true}
 use Rattle.table.specs.Changing.{holds, put_in}
 use Rattle.table.specs.Order.{Ordered, Told}
-use Rattle.table.specs.declared.steps.Place.{Place}
-use Rattle.table.specs.declared.steps.Place.TheVariants.{Found, Free}
 use Rattle.table.proofs.Contents.{length_put_in}
 use Rattle.table.proofs.Keeping.{insert_keeps, replace_keeps}
 use Rattle.table.proofs.Finding.{located_tells}
@@ -42,7 +40,7 @@ module _ {K : Type 0} (digits : K → List ℕ) (zero : K) where
     other : (k : List ℕ) → (k ≡ digits more.key → ⊥) → reads ys m k ≡ reads xs n k
 
   module _ (xs : List (Row K)) (n : ℕ) (more : Row K) (ordered : Ordered (λ w. digits w.key) (blank digits zero) xs n) where
-    found_added : (i : ℕ) → i < n → digits (get_or xs i (blank digits zero)).key ≡ digits more.key → place_of digits zero xs n more.key ≡ Found i →
+    found_added : (i : ℕ) → i < n → digits (get_or xs i (blank digits zero)).key ≡ digits more.key → place_of digits zero xs n more.key ≡ Ok i →
         Added xs n more (set xs i (merged (Some (get_or xs i (blank digits zero))) more)) n
     found_added i lt alike at =
         let old : Row K = get_or xs i (blank digits zero) in
@@ -55,7 +53,7 @@ module _ {K : Type 0} (digits : K → List ℕ) (zero : K) where
           other = λ k differs. under_set_other (λ w. digits w.key) (blank digits zero) xs n i r ordered lt refl k (λ e. differs (e ∙ alike));
         }
 
-    free_added : (p : ℕ) → p ≤ n → n < length xs → place_of digits zero xs n more.key ≡ Free p → Added xs n more (put_in xs n p (merged None more)) (n + 1)
+    free_added : (p : ℕ) → p ≤ n → n < length xs → place_of digits zero xs n more.key ≡ Err p → Added xs n more (put_in xs n p (merged None more)) (n + 1)
     free_added p le lt at =
         let r : Row K = merged None more in
         record {
@@ -66,10 +64,10 @@ module _ {K : Type 0} (digits : K → List ℕ) (zero : K) where
           other = λ k differs. under_put_other (λ w. digits w.key) (blank digits zero) xs n p r ordered lt le at k differs;
         }
 
-    added_at : (table : ℕ) (c : Change K) (place : Place) → place_of digits zero xs n more.key ≡ place →
+    added_at : (table : ℕ) (c : Change K) (place : Result ℕ ℕ) → place_of digits zero xs n more.key ≡ place →
         Told (λ w. digits w.key) (blank digits zero) (take n xs) (digits more.key) place →
         adding_at digits zero table xs n more place ≡ Ok c → Added xs n more (changed digits zero c xs n) (counted c xs n)
-    added_at table c (Found i) at told e =
+    added_at table c (Ok i) at told e =
         let long = length-take-le n xs ordered.within in
         let lt : i < n = omega (arith, told.0) in
         let alike : digits (get_or xs i (blank digits zero)).key ≡ digits more.key = ap (λ w. digits w.key) (sym (get_or-take n xs i (blank digits zero) lt)) ∙ told.1 in
@@ -78,7 +76,7 @@ module _ {K : Type 0} (digits : K → List ℕ) (zero : K) where
         let is : c ≡ Replace i r = grown_ok i old.key old.amounts more.amounts c e in
         subst (λ d. Added xs n more (changed digits zero d xs n) (counted d xs n)) (sym is)
         (subst (λ ys. Added xs n more ys n) (sym (cond-true (holds xs n i) (set xs i r) xs (holds_true xs n i lt ordered.within))) (found_added i lt alike at))
-    added_at table c (Free p) at told e =
+    added_at table c (Err p) at told e =
         let long = length-take-le n xs ordered.within in
         let le : p ≤ n = omega (arith, told.within) in
         let r : Row K = merged None more in

@@ -1,11 +1,9 @@
 -- Amounts that were added are taken back. Assumes nothing.
-use Rattle.std.proofs.Common.{◌≡◌, ℕ, ◌+◌, ◌-◌, ◌<◌, ◌≤◌, min, Bool, true, false, cond, eqb, ltb, List, length, get_or, take, set, Some, None, Ok, Option, sym, refl, ap, ◌∙◌, subst, arith}
+use Rattle.std.proofs.Common.{◌≡◌, ℕ, ◌+◌, ◌-◌, ◌<◌, ◌≤◌, min, Bool, true, false, cond, eqb, ltb, List, length, get_or, take, set, Some, None, Ok, Option, sym, refl, ap, ◌∙◌, subst, arith, Err, Result}
 use Rattle.std.proofs.lemmas.List.{set-set, set-get_or, length-set, get_or-set_same, length-take-le}
 use Rattle.std.proofs.lemmas.Bool.{cond-true, cond-false, and_from, le-leb, lt-ltb, ltb-true, ne_eqb}
 use Rattle.table.specs.Changing.{has_room, holds, used, put_in, taken_out}
 use Rattle.table.specs.Order.{Told}
-use Rattle.table.specs.declared.steps.Place.{Place}
-use Rattle.table.specs.declared.steps.Place.TheVariants.{Found, Free}
 use Rattle.table.proofs.Contents.{length_put_in}
 use Rattle.table.proofs.Keeping.{remove_undoes}
 use Rattle.table.proofs.Finding.{located_tells}
@@ -64,13 +62,13 @@ module _ {K : Type 0} (digits : K → List ℕ) (zero : K) (xs : List (Row K)) (
     le_n : n ≤ length xs
     le_n = sound.ordered.within
 
-    found_undone : (i : ℕ) → i < n → place_of digits zero xs n more.key ≡ Found i →
+    found_undone : (i : ℕ) → i < n → place_of digits zero xs n more.key ≡ Ok i →
         Undone (set xs i (row (get_or xs i (blank digits zero)).key (both (get_or xs i (blank digits zero)).amounts more.amounts))) n
     found_undone i lt at =
         let old : Row K = get_or xs i (blank digits zero) in
         let r : Row K = row old.key (both old.amounts more.amounts) in
         let inside : i < length xs = omega (arith, le_n) in
-        let there : place_of digits zero (set xs i r) n more.key ≡ Found i =
+        let there : place_of digits zero (set xs i r) n more.key ≡ Ok i =
         located_replaced (λ w. digits w.key) (blank digits zero) xs n i r (digits more.key) inside refl ∙ at in
         let here : get_or (set xs i r) i (blank digits zero) ≡ r = get_or-set_same xs i r (blank digits zero) inside in
         let taken : taking digits zero (set xs i r) n more ≡ Ok (Replace i old) =
@@ -82,12 +80,12 @@ module _ {K : Type 0} (digits : K → List ℕ) (zero : K) (xs : List (Row K)) (
         undone_by (set xs i r) n (Replace i old) taken refl
         (cond-true _ _ _ (holds_true (set xs i r) n i lt (omega (arith, le_n))) ∙ set-set xs i r old ∙ set-get_or xs i (blank digits zero))
 
-    free_undone : (p : ℕ) → p ≤ n → n < length xs → place_of digits zero xs n more.key ≡ Free p →
+    free_undone : (p : ℕ) → p ≤ n → n < length xs → place_of digits zero xs n more.key ≡ Err p →
         Undone (put_in xs n p (row more.key (both none more.amounts))) (n + 1)
     free_undone p le lt at =
         let r : Row K = row more.key (both none more.amounts) in
         let ys : List (Row K) = put_in xs n p r in
-        let there : place_of digits zero ys (n + 1) more.key ≡ Found p =
+        let there : place_of digits zero ys (n + 1) more.key ≡ Ok p =
         located_inserted (λ w. digits w.key) (blank digits zero) xs n sound.ordered p r lt at in
         let here : get_or ys p (blank digits zero) ≡ r = put_at (λ w. digits w.key) (blank digits zero) xs n p r sound.ordered lt le in
         let taken : taking digits zero ys (n + 1) more ≡ Ok (Remove p) =
@@ -102,10 +100,10 @@ module _ {K : Type 0} (digits : K → List ℕ) (zero : K) (xs : List (Row K)) (
         (cond-true _ _ _ held ∙ less)
         (cond-true _ _ _ held ∙ ap (λ m. taken_out (blank digits zero) ys m p) all ∙ remove_undoes (λ w. digits w.key) (blank digits zero) xs n p sound.ordered r le lt)
 
-    undone_at : (table : ℕ) (c : Change K) (place : Place) → place_of digits zero xs n more.key ≡ place →
+    undone_at : (table : ℕ) (c : Change K) (place : Result ℕ ℕ) → place_of digits zero xs n more.key ≡ place →
         Told (λ w. digits w.key) (blank digits zero) (take n xs) (digits more.key) place →
         adding_at digits zero table xs n more place ≡ Ok c → Undone (changed digits zero c xs n) (counted c xs n)
-    undone_at table c (Found i) at told e =
+    undone_at table c (Ok i) at told e =
         let long = length-take-le n xs le_n in
         let lt : i < n = omega (arith, told.0) in
         let old : Row K = get_or xs i (blank digits zero) in
@@ -113,7 +111,7 @@ module _ {K : Type 0} (digits : K → List ℕ) (zero : K) (xs : List (Row K)) (
         let is : c ≡ Replace i r = grown_ok i old.key old.amounts more.amounts c e in
         subst (λ d. Undone (changed digits zero d xs n) (counted d xs n)) (sym is)
         (subst (λ ys. Undone ys n) (sym (cond-true (holds xs n i) (set xs i r) xs (holds_true xs n i lt le_n))) (found_undone i lt at))
-    undone_at table c (Free p) told_at told e =
+    undone_at table c (Err p) told_at told e =
         let long = length-take-le n xs le_n in
         let le : p ≤ n = omega (arith, told.within) in
         let r : Row K = row more.key (both none more.amounts) in

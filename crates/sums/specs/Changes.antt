@@ -4,8 +4,6 @@ use Rattle.units.specs.declared.refusals.Refusal.{Refusal}
 use Rattle.units.specs.declared.refusals.Refusal.TheVariants.{RowsFull, RowUnsound}
 use Rattle.table.specs.Changing.{has_room, holds, after_insert, after_replace, after_remove}
 use Rattle.table.specs.Locating.{located}
-use Rattle.table.specs.declared.steps.Place.{Place}
-use Rattle.table.specs.declared.steps.Place.TheVariants.{Found, Free}
 use Rattle.sums.specs.Amounts.{none, plus, minus}
 use Rattle.sums.specs.declared.amounts.Amounts.{Amounts}
 use Rattle.sums.specs.declared.changes.Change.{Change}
@@ -53,20 +51,20 @@ module _ {K : Type 0} where
     blank = record { key = zero; amounts = none }
 
     -- where a key stands, or would
-    abbrev pub place_of : List (Row K) → ℕ → K → Place
+    abbrev pub place_of : List (Row K) → ℕ → K → Result ℕ ℕ
     place_of xs n key = located (λ row. digits row.key) blank xs n (digits key)
 
-    abbrev pub adding_at : ℕ → List (Row K) → ℕ → Row K → Place → Result (Change K) Refusal
-    adding_at table xs n more (Found i) = grown i (row_of (slice_index_or xs i blank).key (plus (slice_index_or xs i blank).amounts more.amounts))
-    adding_at table xs n more (Free p) = made (nat_lt n (length xs)) table p (row_of more.key (plus none more.amounts))
+    abbrev pub adding_at : ℕ → List (Row K) → ℕ → Row K → Result ℕ ℕ → Result (Change K) Refusal
+    adding_at table xs n more (Ok i) = grown i (row_of (slice_index_or xs i blank).key (plus (slice_index_or xs i blank).amounts more.amounts))
+    adding_at table xs n more (Err p) = made (nat_lt n (length xs)) table p (row_of more.key (plus none more.amounts))
 
     -- what adding the amounts of a row comes to
     abbrev pub adding : ℕ → List (Row K) → ℕ → Row K → Result (Change K) Refusal
     adding table xs n more = adding_at table xs n more (place_of xs n more.key)
 
-    abbrev pub taking_at : List (Row K) → Row K → Place → Result (Change K) Refusal
-    taking_at xs less (Found i) = lessened i (row_of (slice_index_or xs i blank).key (minus (slice_index_or xs i blank).amounts less.amounts))
-    taking_at xs less (Free p) = Err RowUnsound
+    abbrev pub taking_at : List (Row K) → Row K → Result ℕ ℕ → Result (Change K) Refusal
+    taking_at xs less (Ok i) = lessened i (row_of (slice_index_or xs i blank).key (minus (slice_index_or xs i blank).amounts less.amounts))
+    taking_at xs less (Err p) = Err RowUnsound
 
     -- what taking the amounts of a row back comes to
     abbrev pub taking : List (Row K) → ℕ → Row K → Result (Change K) Refusal

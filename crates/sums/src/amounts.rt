@@ -1,15 +1,15 @@
 // Flights, fuel and CO2, as rows add them up.
-ghost use Rattle.std.specs.Prelude.{◌≡◌, Some};
-ghost use Rattle.sums.specs.Amounts.{within, plus as sum, minus as rest, none};
+ghost use Rattle.std.specs.Prelude.{◌≡◌};
+ghost use Rattle.sums.specs.Amounts.{within, plus, minus};
 
 // The most that a sum can come to: 32,768 entries of 1,000 flights of 400,000,000 g, and 316 times that.
-const MOST_FLIGHTS: u32 = 32_768_000;
+const MOST: Amounts = Amounts {
+    flights: 32_768_000,
+    fuel: 13_107_200_000_000_000,
+    co2: 4_141_875_200_000_000_000,
+};
 
-const MOST_FUEL: u64 = 13_107_200_000_000_000;
-
-const MOST_CO2: u64 = 4_141_875_200_000_000_000;
-
-#[derive(Clone, Copy)]
+#[derive(Clone, Copy, Debug, Default, PartialEq, Eq)]
 pub struct Amounts {
     pub flights: u32,
     // grams
@@ -19,53 +19,34 @@ pub struct Amounts {
 }
 
 impl Amounts {
-    pub(crate) fn none() -> Amounts
-        ensures { result ≡ none }
-    {
-        Amounts {
-            flights: 0,
-            fuel: 0,
-            co2: 0,
-        }
-    }
-
     fn is_within(self) -> bool
         ensures { result ≡ within self }
     {
-        self.flights <= MOST_FLIGHTS && self.fuel <= MOST_FUEL && self.co2 <= MOST_CO2
+        self.flights <= MOST.flights && self.fuel <= MOST.fuel && self.co2 <= MOST.co2
     }
 
     // Both together, unless one of the three passes its size.
     pub(crate) fn plus(self, more: Amounts) -> Option<Amounts>
-        ensures { result ≡ sum self more }
+        ensures { result ≡ plus self more }
     {
-        if !self.is_within() || !more.is_within() {
-            return None;
-        }
         let both = Amounts {
-            flights: self.flights + more.flights,
-            fuel: self.fuel + more.fuel,
-            co2: self.co2 + more.co2,
+            flights: self.flights.checked_add(more.flights)?,
+            fuel: self.fuel.checked_add(more.fuel)?,
+            co2: self.co2.checked_add(more.co2)?,
         };
-        if both.is_within() { Some(both) } else { None }
+        both.is_within().then_some(both)
     }
 
     // What is left, unless there is too little of one of the three or fuel would be left without flights.
     pub(crate) fn minus(self, less: Amounts) -> Option<Amounts>
-        ensures { result ≡ rest self less }
+        ensures { result ≡ minus self less }
     {
-        if self.flights < less.flights || self.fuel < less.fuel || self.co2 < less.co2 {
-            return None;
-        }
         let left = Amounts {
-            flights: self.flights - less.flights,
-            fuel: self.fuel - less.fuel,
-            co2: self.co2 - less.co2,
+            flights: self.flights.checked_sub(less.flights)?,
+            fuel: self.fuel.checked_sub(less.fuel)?,
+            co2: self.co2.checked_sub(less.co2)?,
         };
-        if left.flights == 0 && left.fuel > 0 {
-            None
-        } else {
-            Some(left)
-        }
+        let stray = left.flights == 0 && left.fuel > 0;
+        (!stray).then_some(left)
     }
 }

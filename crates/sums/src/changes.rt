@@ -1,77 +1,24 @@
 // A change of one row, planned on the table as it stands and then made.
-ghost use Rattle.std.specs.Prelude.{◌≡◌, slice_index_or};
-ghost use Rattle.sums.specs.Changes.{blank, row_of, grown, made, lessened, adding, taking, counted, changed, count_after, rows_after};
+ghost use Rattle.std.specs.Prelude.{◌≡◌};
+ghost use Rattle.sums.specs.Changes.{adding, taking, counted, changed, count_after, rows_after};
 ghost use Rattle.sums.specs.Laws.{Lawful};
 ghost use Rattle.table.specs.Changing.{used};
 
 use crate::amounts::Amounts;
 use crate::rows::Row;
 use keys::key::Key;
-use table::record::Record;
 use table::steps;
-use table::steps::Place;
 use units::refusals::Refusal;
 
-#[derive(Clone, Copy)]
+#[derive(Clone, Copy, Debug, PartialEq, Eq)]
 pub enum Change<K: Key> {
     Insert(usize, Row<K>),
     Replace(usize, Row<K>),
     Remove(usize),
 }
 
-fn summed<K: Key>(key: K, amounts: Option<Amounts>) -> Result<Row<K>, Refusal>
-    ensures { result ≡ row_of key amounts }
-{
-    match amounts {
-        Some(amounts) => Ok(Row { key, amounts }),
-        None => Err(Refusal::RowUnsound),
-    }
-}
-
-fn row_at<K: Key>(rows: &[Row<K>], place: usize) -> Row<K>
-    ensures { result ≡ slice_index_or rows.now place (blank K.Key.digits K.Key.zero) }
-{
-    if place < rows.len() {
-        rows[place]
-    } else {
-        Row::blank()
-    }
-}
-
-fn grow<K: Key>(place: usize, row: Result<Row<K>, Refusal>) -> Result<Change<K>, Refusal>
-    ensures { result ≡ grown place row }
-{
-    Ok(Change::Replace(place, row?))
-}
-
-// A new row wants a free place; that is looked at before its amounts.
-fn make<K: Key>(
-    room: bool,
-    table: usize,
-    place: usize,
-    row: Result<Row<K>, Refusal>,
-) -> Result<Change<K>, Refusal>
-    ensures { result ≡ made room table place row }
-{
-    if !room {
-        return Err(Refusal::RowsFull(table));
-    }
-    Ok(Change::Insert(place, row?))
-}
-
-// A row without flights goes.
-fn lessen<K: Key>(place: usize, row: Result<Row<K>, Refusal>) -> Result<Change<K>, Refusal>
-    ensures { result ≡ lessened place row }
-{
-    let row = row?;
-    if row.amounts.flights == 0 {
-        Ok(Change::Remove(place))
-    } else {
-        Ok(Change::Replace(place, row))
-    }
-}
-
 // What adding comes to; `table` is the number that a refusal for want of a free place names.
+#[tactic(auto, using(crate::proofs::Places::located_within, crate::proofs::Places::located_read))]
 fn plan_adding<K: Key>(
     rows: &[Row<K>],
     count: usize,
@@ -81,31 +28,36 @@ fn plan_adding<K: Key>(
     ensures { result ≡ adding K.Key.digits K.Key.zero table rows.now count more }
 {
     match steps::locate(rows, count, more.key) {
-        Place::Found(place) => {
-            let old = row_at(rows, place);
-            grow(place, summed(old.key, old.amounts.plus(more.amounts)))
+        Ok(place) => {
+            let old = rows[place];
+            let amounts = old.amounts.plus(more.amounts).ok_or(Refusal::RowUnsound)?;
+            Ok(Change::Replace(place, Row { amounts, ..old }))
         }
-        Place::Free(place) => {
-            let room = count < rows.len();
-            make(
-                room,
-                table,
-                place,
-                summed(more.key, Amounts::none().plus(more.amounts)),
-            )
+        // A new row wants a free place; that is looked at before its amounts.
+        Err(_) if count >= rows.len() => Err(Refusal::RowsFull(table)),
+        Err(place) => {
+            let amounts = Amounts::default()
+                .plus(more.amounts)
+                .ok_or(Refusal::RowUnsound)?;
+            Ok(Change::Insert(place, Row { amounts, ..more }))
         }
     }
 }
 
+#[tactic(auto, using(crate::proofs::Places::located_within, crate::proofs::Places::located_read))]
 fn plan_taking<K: Key>(rows: &[Row<K>], count: usize, less: Row<K>) -> Result<Change<K>, Refusal>
     ensures { result ≡ taking K.Key.digits K.Key.zero rows.now count less }
 {
-    match steps::locate(rows, count, less.key) {
-        Place::Found(place) => {
-            let old = row_at(rows, place);
-            lessen(place, summed(old.key, old.amounts.minus(less.amounts)))
-        }
-        Place::Free(_) => Err(Refusal::RowUnsound),
+    let Ok(place) = steps::locate(rows, count, less.key) else {
+        return Err(Refusal::RowUnsound);
+    };
+    let old = rows[place];
+    let amounts = old.amounts.minus(less.amounts).ok_or(Refusal::RowUnsound)?;
+    // A row without flights goes.
+    if amounts.flights == 0 {
+        Ok(Change::Remove(place))
+    } else {
+        Ok(Change::Replace(place, Row { amounts, ..old }))
     }
 }
 
@@ -115,18 +67,12 @@ fn apply<K: Key>(rows: &mut [Row<K>], count: usize, change: Change<K>) -> usize
     ensures rows { rows.new ≡ changed K.Key.digits K.Key.zero change rows.old count }
 {
     match change {
-        Change::Insert(place, row) => {
-            let done = steps::insert(rows, count, place, row);
-            if done { count + 1 } else { count }
-        }
+        Change::Insert(place, row) => count + usize::from(steps::insert(rows, count, place, row)),
         Change::Replace(place, row) => {
-            let _done = steps::replace(rows, count, place, row);
+            steps::replace(rows, count, place, row);
             count
         }
-        Change::Remove(place) => {
-            let done = steps::remove(rows, count, place);
-            if done { count - 1 } else { count }
-        }
+        Change::Remove(place) => count - usize::from(steps::remove(rows, count, place)),
     }
 }
 
@@ -159,7 +105,7 @@ pub fn take_back<K: Key>(rows: &mut [Row<K>], count: usize, less: Row<K>) -> Res
     ensures answer { result ≡ count_after (taking K.Key.digits K.Key.zero rows.old (used rows.old count) less) rows.old (used rows.old count) }
     ensures rows { rows.new ≡ rows_after K.Key.digits K.Key.zero (taking K.Key.digits K.Key.zero rows.old (used rows.old count) less) rows.old (used rows.old count) }
 {
-    let count = count.min(rows.len());
+    let count = used_rows(rows, count);
     let change = plan_taking(rows, count, less)?;
     Ok(apply(rows, count, change))
 }

@@ -6,7 +6,7 @@ use crate::amounts::Amounts;
 use keys::key::Key;
 use table::record::Record;
 
-#[derive(Clone, Copy)]
+#[derive(Clone, Copy, Debug, PartialEq, Eq)]
 pub struct Row<K: Key> {
     pub key: K,
     pub amounts: Amounts,
@@ -26,7 +26,7 @@ impl<K: Key> Record for Row<K> {
     fn blank() -> Row<K> {
         Row {
             key: K::blank(),
-            amounts: Amounts::none(),
+            amounts: Amounts::default(),
         }
     }
 }

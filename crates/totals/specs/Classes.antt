@@ -1,5 +1,6 @@
 -- The class of a pair of States. Assumes nothing.
-use Rattle.std.specs.Prelude.{ℕ, ◌-◌, Bool, false, cond, ◌&&◌, List, ◌==◌, nat_le, slice_index}
+use Rattle.std.specs.Prelude.{ℕ, cond, ◌&&◌, List, ◌==◌, nat_le}
+use Rattle.units.specs.Marks.{takes_part}
 use Rattle.keys.specs.declared.kinds.StatePair.{StatePair}
 use Rattle.totals.specs.declared.classes.Class.{Class}
 use Rattle.totals.specs.declared.classes.Class.TheVariants.{Domestic, International, Subject}
@@ -9,10 +10,6 @@ abbrev pub letter : Class → ℕ
 letter Domestic = 68
 letter International = 78
 letter Subject = 83
-
--- States are numbered from 1; one past the marks takes no part
-abbrev pub takes_part : List ℕ → ℕ → Bool
-takes_part marks state = cond (state == 0) false (slice_index marks (state - 1) == 1)
 
 -- two States that are one are domestic; two that both take part are subject from 2021 on
 abbrev pub class_of : ℕ → List ℕ → StatePair → Class

@@ -1,5 +1,5 @@
 -- CO2 by class. Assumes nothing.
-use Rattle.std.specs.Prelude.{◌≡◌, ℕ, ◌+◌, ◌*◌, ◌^◌, ◌<◌, ◌≤◌, Bool, true, false, cond, List, [], ◌∷◌, take}
+use Rattle.std.specs.Prelude.{◌≡◌, ℕ, ◌+◌, ◌*◌, ◌^◌, ◌<◌, ◌≤◌, Bool, true, false, cond, List, take, sum_by}
 use Rattle.keys.specs.declared.kinds.StatePair.{StatePair}
 use Rattle.sums.specs.declared.rows.Row.{Row}
 use Rattle.totals.specs.Classes.{class_of}
@@ -24,9 +24,8 @@ is_domestic International = false
 is_domestic Subject = false
 
 -- the CO2 of the rows that pass a test
-unfoldable pub co2_of : (Row StatePair → Bool) → List (Row StatePair) → ℕ
-co2_of test [] = 0
-co2_of test (row ∷ rows) = cond (test row) row.amounts.co2 0 + co2_of test rows
+abbrev pub co2_of : (Row StatePair → Bool) → List (Row StatePair) → ℕ
+co2_of test rows = sum_by (λ row. cond (test row) row.amounts.co2 0) rows
 
 abbrev pub totals_of : ℕ → List ℕ → List (Row StatePair) → Totals
 totals_of year marks rows = record {
@@ -37,9 +36,11 @@ totals_of year marks rows = record {
 
 -- totals with one more row of a class
 abbrev pub counted : Totals → Class → ℕ → Totals
-counted t Domestic co2 = record { international = t.international; subject = t.subject; domestic = t.domestic + co2 }
-counted t International co2 = record { international = t.international + co2; subject = t.subject; domestic = t.domestic }
-counted t Subject co2 = record { international = t.international + co2; subject = t.subject + co2; domestic = t.domestic }
+counted t class co2 = record {
+  international = t.international + cond (is_international class) co2 0;
+  subject = t.subject + cond (is_subject class) co2 0;
+  domestic = t.domestic + cond (is_domestic class) co2 0;
+}
 
 -- each total is less than its width can hold by one row at least
 pub record Roomy (t : Totals) : Type 0 where

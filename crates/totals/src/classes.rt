@@ -1,10 +1,11 @@
 // The class of a row of State pairs.
-ghost use Rattle.std.specs.Prelude.{◌≡◌, slice_index};
-ghost use Rattle.totals.specs.Classes.{letter as letter_of, takes_part as taking_part, class_of as classed};
+ghost use Rattle.std.specs.Prelude.{◌≡◌};
+ghost use Rattle.totals.specs.Classes.{letter, class_of};
 
 use keys::kinds::StatePair;
+use units::marks::takes_part;
 
-#[derive(Clone, Copy)]
+#[derive(Clone, Copy, Debug, PartialEq, Eq)]
 pub enum Class {
     Domestic,
     // international, not subject to offsetting
@@ -12,11 +13,12 @@ pub enum Class {
     Subject,
 }
 
-impl Class {
-    pub fn letter(self) -> char
-        ensures { result ≡ letter_of self }
-    {
-        match self {
+// Its letter.
+impl From<Class> for char {
+    ghost from_gives = { λ class r. r ≡ letter class };
+
+    fn from(class: Class) -> char {
+        match class {
             Class::Domestic => 'D',
             Class::International => 'N',
             Class::Subject => 'S',
@@ -24,25 +26,10 @@ impl Class {
     }
 }
 
-// 0 past the marks.
-fn mark_at(marks: &[u8], place: usize) -> u8
-    ensures { result ≡ slice_index marks.now place }
-{
-    if place < marks.len() { marks[place] } else { 0 }
-}
-
 // `marks` has one byte for each State from State 1 on, 1 when it takes part.
-fn takes_part(marks: &[u8], state: u16) -> bool
-    ensures { result ≡ taking_part marks.now state }
-{
-    if state == 0 {
-        return false;
-    }
-    mark_at(marks, state as usize - 1) == 1
-}
-
+// `year` and `marks` are two parameters, since a struct of both would be built by the callers only to be taken apart here.
 pub fn class_of(year: u16, marks: &[u8], pair: StatePair) -> Class
-    ensures { result ≡ classed year marks.now pair }
+    ensures { result ≡ class_of year marks.now pair }
 {
     if pair.departure == pair.arrival {
         return Class::Domestic;

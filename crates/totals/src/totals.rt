@@ -8,7 +8,7 @@ use keys::kinds::StatePair;
 use sums::rows::Row;
 
 // Hundredths of a gram; wide enough for whatever the rows hold.
-#[derive(Clone, Copy)]
+#[derive(Clone, Copy, Debug, Default, PartialEq, Eq)]
 pub struct Totals {
     // subject to offsetting or not
     pub international: u128,
@@ -17,26 +17,19 @@ pub struct Totals {
 }
 
 impl Totals {
-    fn with(self, class: Class, co2: u64) -> Totals
-        requires { Roomy self }
-        ensures is { result ≡ counted self class co2 }
+    fn add(&mut self, class: Class, co2: u64)
+        requires { Roomy self.old }
+        ensures is { self.new ≡ counted self.old class co2 }
         ensures small { co2 < 2 ^ 64 }
     {
-        let co2 = co2 as u128;
+        let co2 = u128::from(co2);
         match class {
-            Class::Domestic => Totals {
-                domestic: self.domestic + co2,
-                ..self
-            },
-            Class::International => Totals {
-                international: self.international + co2,
-                ..self
-            },
-            Class::Subject => Totals {
-                international: self.international + co2,
-                subject: self.subject + co2,
-                ..self
-            },
+            Class::Domestic => self.domestic += co2,
+            Class::International => self.international += co2,
+            Class::Subject => {
+                self.international += co2;
+                self.subject += co2;
+            }
         }
     }
 }
@@ -44,14 +37,9 @@ impl Totals {
 pub fn total(year: u16, marks: &[u8], rows: &[Row<StatePair>], count: usize) -> Totals
     ensures { result ≡ totals_of year marks.now (take (used rows.now count) rows.now) }
 {
-    let mut totals = Totals {
-        international: 0,
-        subject: 0,
-        domestic: 0,
-    };
-    for i in 0..count.min(rows.len()) {
-        let row = rows[i];
-        totals = totals.with(class_of(year, marks, row.key), row.amounts.co2);
+    let mut totals = Totals::default();
+    for row in &rows[..count.min(rows.len())] {
+        totals.add(class_of(year, marks, row.key), row.amounts.co2);
     }
     totals
 }

@@ -1,5 +1,5 @@
 use Rattle.totals.specs.Totals.{Summed}
 use Rattle.totals.proofs.totals.total.Given as goal
 
-abbrev pub invariant-loop-i : goal.invariant-loop-i
-invariant-loop-i l = Summed l.year l.marks l.rows l.i l.totals
+abbrev pub invariant-loop-row : goal.invariant-loop-row
+invariant-loop-row l = Summed l.year l.marks l.row-items l.row-index l.totals
