@@ -21,7 +21,7 @@ use Rattle.book.specs.declared.format.Aerodrome.{Aerodrome}
 use Rattle.book.specs.declared.format.Row.{Row}
 use Rattle.book.specs.declared.format.Tier.{Tier}
 use Rattle.book.proofs.Fronts.{front_length}
-use Rattle.book.proofs.Halving.{item_within}
+use Rattle.book.proofs.Searching.{item_within}
 use Rattle.book.proofs.Passing.{spelled_sound}
 use Rattle.book.proofs.Promises.{sound_good, columns_promised, rows_rise, aerodromes_rise, row_right, count_is, fuels_of}
 
