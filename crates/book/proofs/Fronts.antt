@@ -1,5 +1,5 @@
 -- The items of a run of bytes, and their first bytes. Assumes nothing.
-use Rattle.std.proofs.Common.{◌≡◌, ℕ, zero, suc, ◌+◌, ◌*◌, ◌<◌, ◌≤◌, List, length, get_or, take, drop, get_or-take, get_or-drop, sym, refl, ap, ◌∙◌, arith, length-drop, drop-drop, mul-zero, mul-suc}
+use Rattle.std.proofs.Common.{◌≡◌, ℕ, zero, suc, ◌+◌, ◌*◌, ◌<◌, ◌≤◌, List, length, get_or, take, drop, get_or-take, get_or-drop, refl, ap, ◌∙◌, arith, length-drop, drop-drop, mul-zero, mul-suc}
 use Rattle.std.proofs.lemmas.List.{length-take-le, take-take}
 use Rattle.std.specs.Simd.{first_chunks}
 use Rattle.book.specs.Bytes.{u16_at, items, items_of, front}

@@ -1,4 +1,5 @@
 pub mod Fronts
+pub mod Keyed
 pub mod Passing
 pub mod Promised
 pub mod Promises
