@@ -3,26 +3,42 @@ ghost use Rattle.std.specs.Prelude.{◌≡◌, ◌+◌, ◌*◌, ◌<◌, ◌≤
 ghost use Rattle.units.specs.Places.{first};
 ghost use Rattle.book.specs.Bytes.{items};
 ghost use Rattle.book.specs.Check.{columns_checked, row_bad, rows_checked, aerodrome_bad, aerodromes_checked, marks_checked, items_checked, hold, checked};
-ghost use Rattle.book.specs.Items.{column, column_wrong, out_of_order, fuel as fuel_of, fuel_wrong, row_wrong, aerodrome_wrong, count_wrong};
+ghost use Rattle.book.specs.Items.{column, column_wrong, columns_for, fuel as fuel_of, fuel_wrong, row_wrong, aerodrome_wrong, count_wrong};
 ghost use Rattle.book.specs.Parts.{sections};
 ghost use Rattle.book.specs.Sections.{header as header_of, length_good, header_good, columns_good, offsets_good};
 ghost use Rattle.units.specs.declared.refusals.Refusal.TheVariants.{BookLength, BookHeader, BookOffsets};
 
-use crate::bytes::{front, is_before, u16_at, u32_at};
+use crate::bytes::{items as items_in, u16_at, u32_at};
 use crate::format::{Header, Parts, Tier, cut};
 use units::codes::{is_aerodrome_code, is_designator, is_state};
 use units::measures::Kind;
 use units::refusals::Refusal;
 
+// How many columns each kind has.
+#[derive(Clone, Copy)]
+struct Columns {
+    distances: usize,
+    times: usize,
+}
+
+impl Columns {
+    fn of(self, kind: Kind) -> usize
+        ensures { result ≡ columns_for self.distances self.times (Some kind) }
+    {
+        match kind {
+            Kind::Distance => self.distances,
+            Kind::Time => self.times,
+        }
+    }
+}
+
 // The column at `i`; 0 past the last.
 pub(crate) fn column_at(columns: &[u8], i: usize) -> u16
     ensures { result ≡ column columns.now i }
 {
-    if i < columns.len() / 2 {
-        u16_at(columns, 2 * i)
-    } else {
-        0
-    }
+    items_in(columns)
+        .get(i)
+        .map_or(0, |column| u16::from_le_bytes(*column))
 }
 
 fn column_is_wrong(columns: &[u8], limit: u32, i: usize) -> bool
@@ -42,32 +58,21 @@ fn column_is_wrong(columns: &[u8], limit: u32, i: usize) -> bool
 fn check_columns(columns: &[u8], limit: u32) -> Result<(), Refusal>
     ensures { result ≡ columns_checked limit columns.now }
 {
-    for i in 0..columns.len() / 2 {
-        if column_is_wrong(columns, limit, i) {
-            return Err(Refusal::BookColumn(i));
-        }
-    }
-    Ok(())
-}
-
-// Whether item `i` does not stand after the one before it, by the first `len` of its `width` bytes.
-fn is_out_of_order(bytes: &[u8], width: usize, len: usize, i: usize) -> bool
-    requires { width * i + len ≤ length bytes.now }
-    ensures { result ≡ out_of_order width len bytes.now i }
-{
-    i > 0 && !is_before(front(bytes, width, len, i - 1), front(bytes, width, len, i))
+    (0..columns.len() / 2)
+        .find(|&i| column_is_wrong(columns, limit, i))
+        .map_or(Ok(()), |i| Err(Refusal::BookColumn(i)))
 }
 
 // Fuel `j` of a row, in kilograms.
-pub(crate) fn fuel_at(row: &[u8], j: usize) -> u32
-    requires { (length row.now ≡ 104) × (j < 24) }
+pub(crate) fn fuel_at(row: &[u8; 104], j: usize) -> u32
+    requires { j < 24 }
     ensures { result ≡ fuel_of row.now j }
 {
     u32_at(row, 8 + 4 * j)
 }
 
-fn fuel_is_wrong(row: &[u8], j: usize) -> bool
-    requires { (length row.now ≡ 104) × (j < 24) }
+fn fuel_is_wrong(row: &[u8; 104], j: usize) -> bool
+    requires { j < 24 }
     ensures { result ≡ fuel_wrong row.now j }
 {
     let fuel = fuel_at(row, j);
@@ -78,66 +83,51 @@ fn fuel_is_wrong(row: &[u8], j: usize) -> bool
     }
 }
 
-fn fuels_are_wrong(row: &[u8]) -> bool
-    requires { length row.now ≡ 104 }
+fn fuels_are_wrong(row: &[u8; 104]) -> bool
     ensures { result ≡ is_some (first (fuel_wrong row.now) 24) }
 {
-    for j in 0..24 {
-        if fuel_is_wrong(row, j) {
-            return true;
-        }
-    }
-    false
+    (0..24).any(|j| fuel_is_wrong(row, j))
 }
 
 // Whether a row has too few fuels, or more than the columns of its kind.
-fn count_is_wrong(row: &[u8], distances: usize, times: usize) -> bool
-    requires { length row.now ≡ 104 }
-    ensures { result ≡ count_wrong distances times row.now }
+fn count_is_wrong(row: &[u8; 104], columns: Columns) -> bool
+    ensures { result ≡ count_wrong columns.distances columns.times row.now }
 {
-    let columns = match Kind::of_number(row[4] as u32) {
-        Some(Kind::Distance) => distances,
-        Some(Kind::Time) => times,
-        None => 0,
-    };
-    row[6] < 2 || columns < row[6] as usize
+    let most = Kind::of_number(row[4] as u32).map_or(0, |kind| columns.of(kind));
+    row[6] < 2 || most < row[6] as usize
 }
 
-fn row_is_wrong(row: &[u8], distances: usize, times: usize) -> bool
-    requires { length row.now ≡ 104 }
-    ensures { result ≡ row_wrong distances times row.now }
+fn row_is_wrong(row: &[u8; 104], columns: Columns) -> bool
+    ensures { result ≡ row_wrong columns.distances columns.times row.now }
 {
-    !is_designator(&row[0..4])
+    !is_designator(&row[..4])
         || Kind::of_number(row[4] as u32).is_none()
         || Tier::of_number(row[5]).is_none()
-        || count_is_wrong(row, distances, times)
+        || count_is_wrong(row, columns)
         || row[7] != 0
         || fuels_are_wrong(row)
 }
 
-fn row_is_bad(rows: &[u8], distances: usize, times: usize, i: usize) -> bool
+fn row_is_bad(rows: &[u8], columns: Columns, i: usize) -> bool
     requires { i < items 104 rows.now }
-    ensures { result ≡ row_bad distances times rows.now i }
+    ensures { result ≡ row_bad columns.distances columns.times rows.now i }
 {
-    row_is_wrong(front(rows, 104, 104, i), distances, times) || is_out_of_order(rows, 104, 5, i)
+    let rows = items_in(rows);
+    row_is_wrong(&rows[i], columns) || i > 0 && rows[i][..5] <= rows[i - 1][..5]
 }
 
-fn check_rows(rows: &[u8], distances: usize, times: usize) -> Result<(), Refusal>
-    ensures { result ≡ rows_checked distances times rows.now }
+fn check_rows(rows: &[u8], columns: Columns) -> Result<(), Refusal>
+    ensures { result ≡ rows_checked columns.distances columns.times rows.now }
 {
-    for i in 0..rows.len() / 104 {
-        if row_is_bad(rows, distances, times, i) {
-            return Err(Refusal::BookRow(i));
-        }
-    }
-    Ok(())
+    (0..rows.len() / 104)
+        .find(|&i| row_is_bad(rows, columns, i))
+        .map_or(Ok(()), |i| Err(Refusal::BookRow(i)))
 }
 
-fn aerodrome_is_wrong(aerodrome: &[u8]) -> bool
-    requires { length aerodrome.now ≡ 8 }
+fn aerodrome_is_wrong(aerodrome: &[u8; 8]) -> bool
     ensures { result ≡ aerodrome_wrong aerodrome.now }
 {
-    !is_aerodrome_code(&aerodrome[0..4])
+    !is_aerodrome_code(&aerodrome[..4])
         || !is_state(u16_at(aerodrome, 4))
         || u16_at(aerodrome, 6) != 0
 }
@@ -146,29 +136,25 @@ fn aerodrome_is_bad(aerodromes: &[u8], i: usize) -> bool
     requires { i < items 8 aerodromes.now }
     ensures { result ≡ aerodrome_bad aerodromes.now i }
 {
-    aerodrome_is_wrong(front(aerodromes, 8, 8, i)) || is_out_of_order(aerodromes, 8, 4, i)
+    let aerodromes = items_in(aerodromes);
+    aerodrome_is_wrong(&aerodromes[i]) || i > 0 && aerodromes[i][..4] <= aerodromes[i - 1][..4]
 }
 
 fn check_aerodromes(aerodromes: &[u8]) -> Result<(), Refusal>
     ensures { result ≡ aerodromes_checked aerodromes.now }
 {
-    for i in 0..aerodromes.len() / 8 {
-        if aerodrome_is_bad(aerodromes, i) {
-            return Err(Refusal::BookAerodrome(i));
-        }
-    }
-    Ok(())
+    (0..aerodromes.len() / 8)
+        .find(|&i| aerodrome_is_bad(aerodromes, i))
+        .map_or(Ok(()), |i| Err(Refusal::BookAerodrome(i)))
 }
 
 fn check_marks(marks: &[u8]) -> Result<(), Refusal>
     ensures { result ≡ marks_checked marks.now }
 {
-    for (i, mark) in marks.iter().enumerate() {
-        if *mark > 1 {
-            return Err(Refusal::StateMark(i));
-        }
-    }
-    Ok(())
+    marks
+        .iter()
+        .position(|mark| *mark > 1)
+        .map_or(Ok(()), |i| Err(Refusal::StateMark(i)))
 }
 
 // The items of every section, in the order of the sections.
@@ -177,7 +163,11 @@ fn check_items(parts: Parts<'_>) -> Result<(), Refusal>
 {
     check_columns(parts.distances, Kind::Distance.limit())?;
     check_columns(parts.times, Kind::Time.limit())?;
-    check_rows(parts.rows, parts.distances.len() / 2, parts.times.len() / 2)?;
+    let columns = Columns {
+        distances: parts.distances.len() / 2,
+        times: parts.times.len() / 2,
+    };
+    check_rows(parts.rows, columns)?;
     check_aerodromes(parts.aerodromes)?;
     check_marks(parts.marks)
 }
