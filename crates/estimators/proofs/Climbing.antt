@@ -1,18 +1,20 @@
 -- The estimate of a sound book's row climbs. Assumes nothing.
-use Rattle.std.proofs.Common.{◌≡◌, ℕ, zero, suc, ◌+◌, ◌-◌, ◌*◌, ◌<◌, ◌≤◌, true, Some, None, Option, sym, refl, ap, ◌∙◌, subst, ⊎_elim, arith}
+use Rattle.std.proofs.Common.{◌≡◌, ℕ, zero, suc, ◌+◌, ◌-◌, ◌*◌, ◌<◌, ◌≤◌, true, Some, None, Ok, Err, Option, sym, refl, ap, ◌∙◌, subst, ⊎_elim, arith}
 use Rattle.std.proofs.lemmas.Bool.{le-leb, lt-leb, leb-true, leb-false, cases_lt, cases_eq, cases_order}
 use Rattle.units.specs.declared.codes.Designator.{Designator}
 use Rattle.units.specs.declared.measures.Kind.{Kind}
 use Rattle.units.proofs.Searched.{first_some, some_first, none_first}
 use Rattle.book.specs.Check.{sound}
 use Rattle.book.specs.Contents.{column_of, fuel_of, fuel_count_of, row_place}
+use Rattle.book.specs.Reading.{contents}
 use Rattle.book.specs.Sections.{Sections}
+use Rattle.book.specs.declared.checked.Book.{Book}
 use Rattle.book.proofs.Promises.{columns_promised, fuels_promised}
 use Rattle.estimators.specs.Between.{on_line_le, on_line_ge, on_line_start, on_line_end, on_line_mono}
 use Rattle.estimators.specs.Climbs.{Between, Climbs}
 use Rattle.estimators.specs.Laws.{of}
 use Rattle.estimators.specs.Rows.{on_line, on_segment, segment, row_answer, rows_meaning}
-use Rattle.estimators.specs.declared.answers.Answer.TheVariants.{Fuel, Beyond}
+use Rattle.estimators.specs.declared.answers.NoEstimate.TheVariants.{Beyond}
 use Rattle.estimators.proofs.Lines.{reaches}
 
 -- what never falls from one place to the next never falls
@@ -42,26 +44,26 @@ module _ (s : Sections) (ok : sound s ≡ true) (d : Designator) (k : Kind) (i :
   fuels_mono = mono (fuel_of s i) (fuel_count_of s i) fuels_up
 
   -- the segment is the first whose later column x does not pass
-  at_segment : (j x : ℕ) → j + 1 < fuel_count_of s i → x ≤ column_of s k (j + 1) → ((n : ℕ) → n < j → column_of s k (n + 1) < x) → rows_meaning s d (of k x) ≡ Fuel (on_line (column_of s k j) (column_of s k (j + 1)) (fuel_of s i j) (fuel_of s i (j + 1)) x)
+  at_segment : (j x : ℕ) → j + 1 < fuel_count_of s i → x ≤ column_of s k (j + 1) → ((n : ℕ) → n < j → column_of s k (n + 1) < x) → rows_meaning s d (of k x) ≡ Ok (on_line (column_of s k j) (column_of s k (j + 1)) (fuel_of s i j) (fuel_of s i (j + 1)) x)
   at_segment j x lt le before =
       ap (row_answer s (of k x)) found
       ∙ ap (on_segment (column_of s k) (fuel_of s i) x)
       (some_first (reaches (column_of s k) x) (fuel_count_of s i - 1) j (omega arith) (le-leb x _ le) (λ n l. lt-leb x _ (before n l)))
 
   -- at a column after the first, the two segments that meet there agree
-  at_column : (m x : ℕ) → m + 1 + 1 < fuel_count_of s i → x ≡ column_of s k (m + 1) → rows_meaning s d (of k x) ≡ Fuel (on_line (column_of s k (m + 1)) (column_of s k (m + 1 + 1)) (fuel_of s i (m + 1)) (fuel_of s i (m + 1 + 1)) x)
+  at_column : (m x : ℕ) → m + 1 + 1 < fuel_count_of s i → x ≡ column_of s k (m + 1) → rows_meaning s d (of k x) ≡ Ok (on_line (column_of s k (m + 1)) (column_of s k (m + 1 + 1)) (fuel_of s i (m + 1)) (fuel_of s i (m + 1 + 1)) x)
   at_column m x lt here =
       let up = columns_up m (omega arith) in
       let next = columns_up (m + 1) lt in
       let ends = on_line_end (column_of s k m) (column_of s k (m + 1)) (fuel_of s i m) (fuel_of s i (m + 1)) up (fuels_up m (omega arith)) in
       let starts = on_line_start (column_of s k (m + 1)) (column_of s k (m + 1 + 1)) (fuel_of s i (m + 1)) (fuel_of s i (m + 1 + 1)) next (fuels_up (m + 1) lt) in
       at_segment m x (omega arith) (omega arith) (λ n l. let low = columns_mono (n + 1) m (omega arith) (omega arith) in omega arith)
-      ∙ ap Fuel
+      ∙ ap Ok
       (ap (on_line (column_of s k m) (column_of s k (m + 1)) (fuel_of s i m) (fuel_of s i (m + 1))) here
       ∙ ends ∙ sym starts
       ∙ ap (on_line (column_of s k (m + 1)) (column_of s k (m + 1 + 1)) (fuel_of s i (m + 1)) (fuel_of s i (m + 1 + 1))) (sym here))
 
-  answer_between : (j x : ℕ) → j + 1 < fuel_count_of s i → column_of s k j ≤ x → x ≤ column_of s k (j + 1) → rows_meaning s d (of k x) ≡ Fuel (on_line (column_of s k j) (column_of s k (j + 1)) (fuel_of s i j) (fuel_of s i (j + 1)) x)
+  answer_between : (j x : ℕ) → j + 1 < fuel_count_of s i → column_of s k j ≤ x → x ≤ column_of s k (j + 1) → rows_meaning s d (of k x) ≡ Ok (on_line (column_of s k j) (column_of s k (j + 1)) (fuel_of s i j) (fuel_of s i (j + 1)) x)
   answer_between zero x lt low high = at_segment 0 x lt high (λ n l. absurd (omega arith))
   answer_between (suc m) x lt low high =
       ⊎_elim
@@ -69,7 +71,7 @@ module _ (s : Sections) (ok : sound s ≡ true) (d : Designator) (k : Kind) (i :
       (λ at.
       let next : m + 1 ≡ suc m = omega arith in
       let here : x ≡ column_of s k (suc m) = omega arith in
-      subst (λ j. rows_meaning s d (of k x) ≡ Fuel (on_line (column_of s k j) (column_of s k (j + 1)) (fuel_of s i j) (fuel_of s i (j + 1)) x)) next
+      subst (λ j. rows_meaning s d (of k x) ≡ Ok (on_line (column_of s k j) (column_of s k (j + 1)) (fuel_of s i j) (fuel_of s i (j + 1)) x)) next
       (at_column m x (omega arith) (here ∙ ap (column_of s k) (sym next))))
       (cases_lt (column_of s k (suc m)) x)
 
@@ -80,14 +82,14 @@ module _ (s : Sections) (ok : sound s ≡ true) (d : Designator) (k : Kind) (i :
     high = on_line_le _ _ _ _ x (columns_up j lt) high (fuels_up j lt);
   }
 
-  past_columns : (x : ℕ) → column_of s k (fuel_count_of s i - 1) < x → rows_meaning s d (of k x) ≡ Beyond
+  past_columns : (x : ℕ) → column_of s k (fuel_count_of s i - 1) < x → rows_meaning s d (of k x) ≡ Err Beyond
   past_columns x past =
       ap (row_answer s (of k x)) found
       ∙ ap (on_segment (column_of s k) (fuel_of s i) x)
       (none_first (reaches (column_of s k) x) (fuel_count_of s i - 1)
       (λ j lt. let up = columns_mono (j + 1) (fuel_count_of s i - 1) (omega arith) (omega arith) in lt-leb x _ (omega arith)))
 
-  segments_climb : (x y g h : ℕ) → x ≤ y → (a b : Option ℕ) → segment (column_of s k) (fuel_of s i) (fuel_count_of s i) x ≡ a → segment (column_of s k) (fuel_of s i) (fuel_count_of s i) y ≡ b → on_segment (column_of s k) (fuel_of s i) x a ≡ Fuel g → on_segment (column_of s k) (fuel_of s i) y b ≡ Fuel h → g ≤ h
+  segments_climb : (x y g h : ℕ) → x ≤ y → (a b : Option ℕ) → segment (column_of s k) (fuel_of s i) (fuel_count_of s i) x ≡ a → segment (column_of s k) (fuel_of s i) (fuel_count_of s i) y ≡ b → on_segment (column_of s k) (fuel_of s i) x a ≡ Ok g → on_segment (column_of s k) (fuel_of s i) y b ≡ Ok h → g ≤ h
   segments_climb x y g h le None b sa sb ga hb = absurd (let z : ◌≡◌ {A = ℕ} 0 1 = cc in omega arith)
   segments_climb x y g h le (Some m) None sa sb ga hb = absurd (let z : ◌≡◌ {A = ℕ} 0 1 = cc in omega arith)
   segments_climb x y g h le (Some m) (Some n) sa sb ga hb =
@@ -116,7 +118,7 @@ module _ (s : Sections) (ok : sound s ≡ true) (d : Designator) (k : Kind) (i :
       (λ after. absurd (let no_x = leb-false x _ (at.before n (omega arith) after) in omega arith)))
       (cases_order m n)
 
-rows_climb : (s : Sections) (d : Designator) (k : Kind) (o : Option ℕ) → sound s ≡ true → row_place s d k ≡ o → (x y g h : ℕ) → x ≤ y → row_answer s (of k x) o ≡ Fuel g → row_answer s (of k y) o ≡ Fuel h → g ≤ h
+rows_climb : (s : Sections) (d : Designator) (k : Kind) (o : Option ℕ) → sound s ≡ true → row_place s d k ≡ o → (x y g h : ℕ) → x ≤ y → row_answer s (of k x) o ≡ Ok g → row_answer s (of k y) o ≡ Ok h → g ≤ h
 rows_climb s d k None ok is x y g h le ga hb = absurd (let z : ◌≡◌ {A = ℕ} 0 1 = cc in omega arith)
 rows_climb s d k (Some i) ok is x y g h le ga hb = segments_climb s ok d k i is x y g h le _ _ refl refl ga hb
 
@@ -126,3 +128,6 @@ climbs s ok d k = record {
   past = λ i x found. past_columns s ok d k i found x;
   never_falls = rows_climb s d k (row_place s d k) ok refl;
 }
+
+pub book_climbs : (b : Book) (d : Designator) (k : Kind) → Climbs (contents b) d k
+book_climbs b d k = climbs (contents b) b.good d k

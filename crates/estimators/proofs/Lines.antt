@@ -1,21 +1,22 @@
--- A loop's way to the two columns that an amount lies between. Assumes nothing.
-use Rattle.std.proofs.Common.{◌≡◌, ℕ, ◌+◌, ◌-◌, ◌<◌, ◌≤◌, Bool, leb, sym, ap}
-use Rattle.std.proofs.lemmas.Bool.{le-leb, lt-leb}
-use Rattle.units.proofs.Searched.{Passed, passed_more, passed_hit, passed_all}
-use Rattle.estimators.specs.Rows.{on_line, on_segment, line}
-use Rattle.estimators.specs.declared.answers.Answer.TheVariants.{Fuel, Beyond}
+-- The two columns that an amount lies between. Assumes nothing.
+use Rattle.std.proofs.Common.{◌≡◌, ℕ, ◌+◌, ◌<◌, ◌≤◌, Bool, true, false, leb, Some, None, IfSome, Option, MatchOption, sym, arith}
+use Rattle.std.proofs.lemmas.Bool.{leb-true}
+use Rattle.units.specs.Places.{first}
+use Rattle.units.proofs.Searched.{none_first, some_first}
 
 -- the amount does not pass the column after j
 abbrev pub reaches : (ℕ → ℕ) → ℕ → ℕ → Bool
 reaches columns x j = leb x (columns (j + 1))
 
-module _ (columns fuels : ℕ → ℕ) (count x j : ℕ) where
-  pub line_more : j < count - 1 → Passed (reaches columns x) (count - 1) j → columns (j + 1) < x → Passed (reaches columns x) (count - 1) (j + 1)
-  line_more lt passed past = passed_more (reaches columns x) (count - 1) j lt passed (lt-leb x (columns (j + 1)) past)
+-- what a search of the places below n tells of its answer
+abbrev pub Told : (ℕ → Bool) → ℕ → Option ℕ → Type 0
+Told test n answer =
+    MatchOption answer ((k : ℕ) → 0 ≤ k → k < n → test k ≡ false) (λ i. (0 ≤ i) × (i < n) × (test i ≡ true) × ((k : ℕ) → 0 ≤ k → k < i → test k ≡ false))
 
-  pub line_hit : j < count - 1 → Passed (reaches columns x) (count - 1) j → x ≤ columns (j + 1) → Fuel (on_line (columns j) (columns (j + 1)) (fuels j) (fuels (j + 1)) x) ≡ line columns fuels count x
-  line_hit lt passed within =
-      sym (ap (on_segment columns fuels x) (passed_hit (reaches columns x) (count - 1) j lt passed (le-leb x (columns (j + 1)) within)))
+pub told_first : (test : ℕ → Bool) (n : ℕ) (answer : Option ℕ) → Told test n answer → answer ≡ first test n
+told_first test n None none = sym (none_first test n (λ k lt. none k (omega arith) lt))
+told_first test n (Some i) some = sym (some_first test n i some.1 some.2 (λ k lt. some.3 k (omega arith) lt))
 
-  pub line_past : count - 1 ≤ j → Passed (reaches columns x) (count - 1) j → Beyond ≡ line columns fuels count x
-  line_past le passed = sym (ap (on_segment columns fuels x) (passed_all (reaches columns x) (count - 1) j le passed))
+pub told_next : (columns : ℕ → ℕ) (x m n : ℕ) (answer : Option ℕ) → Told (reaches columns x) n answer → n < m → IfSome answer (λ j. (j + 1 < m) × (x ≤ columns (j + 1)))
+told_next columns x m n None none small = tt
+told_next columns x m n (Some j) some small = (omega (arith, some.1), leb-true x (columns (j + 1)) some.2)

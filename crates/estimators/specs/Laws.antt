@@ -3,8 +3,7 @@ use Rattle.std.specs.Prelude.{◌≡◌, ℕ, true}
 use Rattle.units.specs.declared.codes.Designator.{Designator}
 use Rattle.units.specs.declared.measures.Kind.{Kind}
 use Rattle.units.specs.declared.measures.Measure.{Measure}
-use Rattle.estimators.specs.Answers.{known, within_limit}
-use Rattle.estimators.specs.declared.answers.Answer.{Answer}
+use Rattle.estimators.specs.Answers.{Answer, known, within_limit}
 
 abbrev pub of : Kind → ℕ → Measure
 of k x = record { kind = k; amount = x }

@@ -1,13 +1,13 @@
 -- The estimate of a book's rows: a straight line between two columns. Assumes nothing.
-use Rattle.std.specs.Prelude.{ℕ, ◌+◌, ◌-◌, ◌*◌, Some, None, Option, nat_le}
+use Rattle.std.specs.Prelude.{ℕ, ◌+◌, ◌-◌, ◌*◌, Some, None, Ok, Err, Option, nat_le}
 use Rattle.units.specs.Amount.{nearest}
 use Rattle.units.specs.Places.{first}
 use Rattle.units.specs.declared.codes.Designator.{Designator}
 use Rattle.units.specs.declared.measures.Measure.{Measure}
 use Rattle.book.specs.Contents.{column_of, fuel_of, fuel_count_of, row_place}
 use Rattle.book.specs.Sections.{Sections}
-use Rattle.estimators.specs.declared.answers.Answer.{Answer}
-use Rattle.estimators.specs.declared.answers.Answer.TheVariants.{Fuel, NotKnown, Beyond}
+use Rattle.estimators.specs.Answers.{Answer}
+use Rattle.estimators.specs.declared.answers.NoEstimate.TheVariants.{NotKnown, Beyond}
 
 -- the grams at x on the straight line from f kilograms at column c to g kilograms at column d
 abbrev pub on_line : ℕ → ℕ → ℕ → ℕ → ℕ → ℕ
@@ -19,8 +19,8 @@ module _ (columns fuels : ℕ → ℕ) where
   segment count x = first (λ j. nat_le x (columns (j + 1))) (count - 1)
 
   abbrev pub on_segment : ℕ → Option ℕ → Answer
-  on_segment x None = Beyond
-  on_segment x (Some j) = Fuel (on_line (columns j) (columns (j + 1)) (fuels j) (fuels (j + 1)) x)
+  on_segment x None = Err Beyond
+  on_segment x (Some j) = Ok (on_line (columns j) (columns (j + 1)) (fuels j) (fuels (j + 1)) x)
 
   -- a row with count fuels, at the amount x
   abbrev pub line : ℕ → ℕ → Answer
@@ -28,7 +28,7 @@ module _ (columns fuels : ℕ → ℕ) where
 
 -- the row at a place, if there is one
 abbrev pub row_answer : Sections → Measure → Option ℕ → Answer
-row_answer s m None = NotKnown
+row_answer s m None = Err NotKnown
 row_answer s m (Some i) = line (column_of s m.kind) (fuel_of s i) (fuel_count_of s i) m.amount
 
 -- the fuel of one flight by the book's row of its type and kind

@@ -1,39 +1,35 @@
 // What an estimator answers.
 ghost use Rattle.std.specs.Prelude.{◌≡◌};
-ghost use Rattle.estimators.specs.Answers.{known, outcome as outcome_of};
+ghost use Rattle.estimators.specs.Answers.{known, refusal_for};
 
 use units::refusals::Refusal;
 
-#[derive(Clone, Copy)]
-pub enum Answer {
-    // Grams of fuel for one flight.
-    Fuel(u64),
+// Why there is no estimate.
+#[derive(Clone, Copy, Debug, PartialEq, Eq)]
+pub enum NoEstimate {
     // The estimator does not know the type, for that kind of measure.
     NotKnown,
     // It knows the type, and the amount lies beyond its model.
     Beyond,
 }
 
-impl Answer {
-    // Whether the estimator knows the type.
-    pub fn is_known(self) -> bool
-        ensures { result ≡ known self }
-    {
-        match self {
-            Answer::Fuel(_) => true,
-            Answer::NotKnown => false,
-            Answer::Beyond => true,
-        }
-    }
+// Grams of fuel for one flight, or why there are none.
+pub type Answer = Result<u64, NoEstimate>;
 
-    // The fuel in grams, or the refusal that the answer stands for.
-    pub fn outcome(self) -> Result<u64, Refusal>
-        ensures { result ≡ outcome_of self }
-    {
-        match self {
-            Answer::Fuel(grams) => Ok(grams),
-            Answer::NotKnown => Err(Refusal::TypeUnknown),
-            Answer::Beyond => Err(Refusal::BeyondModel),
+// Whether the estimator knows the type.
+pub fn is_known(answer: Answer) -> bool
+    ensures { result ≡ known answer }
+{
+    answer != Err(NoEstimate::NotKnown)
+}
+
+impl From<NoEstimate> for Refusal {
+    ghost from_gives = { λ why r. r ≡ refusal_for why };
+
+    fn from(why: NoEstimate) -> Refusal {
+        match why {
+            NoEstimate::NotKnown => Refusal::TypeUnknown,
+            NoEstimate::Beyond => Refusal::BeyondModel,
         }
     }
 }

@@ -1,8 +1,8 @@
 // What every estimator is.
-ghost use Rattle.std.specs.Prelude.{◌≡◌};
+ghost use Rattle.std.specs.Prelude.{◌≡◌, true};
 ghost use Rattle.units.specs.declared.codes.Designator.{Designator};
 ghost use Rattle.units.specs.declared.measures.Measure.{Measure};
-ghost use Rattle.estimators.specs.declared.answers.Answer.{Answer};
+ghost use Rattle.estimators.specs.Answers.{Answer, within_limit};
 ghost use Rattle.estimators.specs.Laws.{Laws};
 
 use crate::answers::Answer;
@@ -17,5 +17,6 @@ pub trait Estimator {
     ghost laws: { Laws meaning };
 
     fn ask(&self, designator: Designator, measure: Measure) -> Answer
-        ensures { result ≡ meaning self.now designator measure };
+        ensures meant { result ≡ meaning self.now designator measure }
+        ensures limited { within_limit result ≡ true };
 }

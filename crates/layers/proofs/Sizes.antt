@@ -1,6 +1,5 @@
 -- The coefficients are small. Assumes nothing.
-use Rattle.std.proofs.Common.{◌≡◌, ℕ, zero, suc, ◌+◌, ◌-◌, ◌*◌, ◌^◌, ◌<◌, ◌≤◌, Bool, true, ◌&&◌, leb, List, [], ◌∷◌, get_or, ℤ, pos, nat_abs, refl, arith}
-use Rattle.std.proofs.lemmas.Nat.{mul-le}
+use Rattle.std.proofs.Common.{◌≡◌, ℕ, zero, suc, ◌+◌, ◌-◌, ◌*◌, ◌≤◌, Bool, true, ◌&&◌, leb, List, [], ◌∷◌, get_or, ℤ, pos, nat_abs, refl, arith}
 use Rattle.std.proofs.lemmas.Bool.{and_parts, leb-true}
 use Rattle.units.specs.Measuring.{kind_number}
 use Rattle.units.specs.declared.measures.Kind.{Kind}
@@ -16,12 +15,5 @@ small_at [] ok i = omega arith
 small_at (z ∷ zs) ok zero = leb-true (nat_abs z) 50000000000000 (and_parts _ _ ok).0
 small_at (z ∷ zs) ok (suc i) = small_at zs (and_parts _ _ ok).1 i
 
-pub table_small : (i : ℕ) → nat_abs (get_or table i (pos 0)) ≤ 50000000000000
-table_small i = small_at table refl i
-
 pub coefficient_small : (k : Kind) (c : Category) (j : ℕ) → nat_abs (coefficient k c j) ≤ 50000000000000
-coefficient_small k c j = table_small (16 * (kind_number k - 1) + 4 * (category_number c - 1) + j)
-
--- a line with small coefficients at a 32-bit number
-pub line_small : (a b r x : ℕ) → a ≤ 50000000000000 → b ≤ 50000000000000 → x < 2 ^ 32 → r ≤ a + b * x → r < 2 ^ 80
-line_small a b r x sa sb sx sr = omega (arith, mul-le b x 50000000000000 (2 ^ 32) sb (omega arith))
+coefficient_small k c j = small_at table refl (16 * (kind_number k - 1) + 4 * (category_number c - 1) + j)

@@ -1,13 +1,12 @@
 -- What every layer does with the answer from below, and with its own fuel. Assumes nothing.
-use Rattle.std.specs.Prelude.{ℕ, cond, nat_le}
+use Rattle.std.specs.Prelude.{ℕ, cond, Ok, Err, nat_le}
 use Rattle.units.specs.Amount.{fuel_limit}
-use Rattle.estimators.specs.Answers.{known}
-use Rattle.estimators.specs.declared.answers.Answer.{Answer}
-use Rattle.estimators.specs.declared.answers.Answer.TheVariants.{Fuel, Beyond}
+use Rattle.estimators.specs.Answers.{Answer, known}
+use Rattle.estimators.specs.declared.answers.NoEstimate.TheVariants.{Beyond}
 
 -- more fuel than one flight may have is beyond the model
 abbrev pub capped : ℕ → Answer
-capped grams = cond (nat_le grams fuel_limit) (Fuel grams) Beyond
+capped grams = cond (nat_le grams fuel_limit) (Ok grams) (Err Beyond)
 
 -- what is known below, else the answer of another layer
 abbrev pub else : Answer → Answer → Answer

@@ -1,10 +1,12 @@
 -- The generic equation: fuel by a type's category and mass. Assumes nothing.
-use Rattle.std.specs.Prelude.{ℕ, ◌+◌, ◌-◌, ◌*◌, Bool, cond, ◌&&◌, List, [], ◌∷◌, ℤ, pos, negsuc, ◌+ℤ◌, ◌*ℤ◌, neg_ℤ, Some, None, Option, ◌==◌, nat_le, slice_index_or}
+use Rattle.std.specs.Prelude.{ℕ, ◌+◌, ◌-◌, ◌*◌, Bool, cond, ◌&&◌, List, [], ◌∷◌, ℤ, pos, negsuc, ◌+ℤ◌, ◌*ℤ◌, neg_ℤ, Some, None, Option, Result, ◌==◌, nat_le, slice_index_or}
+use Rattle.std.specs.Option.{ok_or}
 use Rattle.units.specs.Amount.{nearest}
 use Rattle.units.specs.Measuring.{kind_number}
 use Rattle.units.specs.declared.measures.Kind.{Kind}
 use Rattle.units.specs.declared.measures.Measure.{Measure}
-use Rattle.estimators.specs.declared.answers.Answer.{Answer}
+use Rattle.units.specs.declared.measures.UnknownNumber.{UnknownNumber}
+use Rattle.estimators.specs.Answers.{Answer}
 use Rattle.layers.specs.Above.{capped}
 use Rattle.layers.specs.declared.category.Category.{Category}
 use Rattle.layers.specs.declared.category.Category.TheVariants.{HeavyJet, Jet, LightJet, Turboprop}
@@ -21,6 +23,10 @@ category_of n =
     cond (n == category_number HeavyJet) (Some HeavyJet)
     (cond (n == category_number Jet) (Some Jet)
     (cond (n == category_number LightJet) (Some LightJet) (cond (n == category_number Turboprop) (Some Turboprop) None)))
+
+-- the same, where a number of no category is handed back
+abbrev pub categorised : ℕ → Result Category UnknownNumber
+categorised n = ok_or (category_of n) (record { number = n })
 
 -- the average take-off masses of each category, in kilograms
 abbrev pub mass_fits : Category → ℕ → Bool

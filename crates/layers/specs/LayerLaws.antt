@@ -1,15 +1,14 @@
 -- Each layer over an estimator that meets the laws meets them too. Assumes nothing.
-use Rattle.std.specs.Prelude.{◌≡◌, ℕ, ◌*◌, true, ◌||◌, List, Some, None, Option, nat_le, refl}
+use Rattle.std.specs.Prelude.{◌≡◌, ℕ, ◌*◌, true, ◌||◌, List, Some, None, Ok, Err, Option, nat_le, refl}
 use Rattle.std.proofs.Common.{sym, ◌∙◌}
 use Rattle.std.proofs.lemmas.Bool.{cond_both}
 use Rattle.units.specs.Amount.{nearest, fuel_limit}
 use Rattle.units.specs.declared.codes.Designator.{Designator}
 use Rattle.units.specs.declared.measures.Kind.{Kind}
 use Rattle.units.specs.declared.measures.Measure.{Measure}
-use Rattle.estimators.specs.Answers.{known, within_limit}
+use Rattle.estimators.specs.Answers.{Answer, known, within_limit}
 use Rattle.estimators.specs.Laws.{of, Laws}
-use Rattle.estimators.specs.declared.answers.Answer.{Answer}
-use Rattle.estimators.specs.declared.answers.Answer.TheVariants.{Fuel, NotKnown, Beyond}
+use Rattle.estimators.specs.declared.answers.NoEstimate.TheVariants.{NotKnown, Beyond}
 use Rattle.lists.specs.Listing.{listed}
 use Rattle.layers.specs.Custom.{in_category, by_equation, customs}
 use Rattle.layers.specs.Equation.{category_of, grams, value}
@@ -21,30 +20,28 @@ use Rattle.layers.specs.declared.items.CustomType.{CustomType}
 use Rattle.layers.specs.declared.items.Equivalent.{Equivalent}
 
 known_else : (a b : Answer) → known (else a b) ≡ (known a || known b)
-known_else (Fuel g) b = refl
-known_else NotKnown b = refl
-known_else Beyond b = refl
+known_else (Ok g) b = refl
+known_else (Err NotKnown) b = refl
+known_else (Err Beyond) b = refl
 
 limited_else : (a b : Answer) → within_limit a ≡ true → within_limit b ≡ true → within_limit (else a b) ≡ true
-limited_else (Fuel g) b la lb = la
-limited_else NotKnown b la lb = lb
-limited_else Beyond b la lb = la
+limited_else (Ok g) b la lb = la
+limited_else (Err NotKnown) b la lb = lb
+limited_else (Err Beyond) b la lb = la
 
 known_capped : (n : ℕ) → known (capped n) ≡ true
-known_capped n = cond_both (nat_le n fuel_limit) (Fuel n) Beyond (λ a. known a ≡ true) (λ _. refl) (λ _. refl)
+known_capped n = cond_both (nat_le n fuel_limit) (Ok n) (Err Beyond) (λ a. known a ≡ true) (λ _. refl) (λ _. refl)
 
 limited_capped : (n : ℕ) → within_limit (capped n) ≡ true
-limited_capped n = cond_both (nat_le n fuel_limit) (Fuel n) Beyond (λ a. within_limit a ≡ true) (λ small. small) (λ _. refl)
+limited_capped n = cond_both (nat_le n fuel_limit) (Ok n) (Err Beyond) (λ a. within_limit a ≡ true) (λ small. small) (λ _. refl)
 
 known_scaled : (p q : ℕ) (a : Answer) → known (scaled p q a) ≡ known a
-known_scaled p q (Fuel g) = known_capped (nearest (g * p) q)
-known_scaled p q NotKnown = refl
-known_scaled p q Beyond = refl
+known_scaled p q (Ok g) = known_capped (nearest (g * p) q)
+known_scaled p q (Err why) = refl
 
 limited_scaled : (p q : ℕ) (a : Answer) → within_limit (scaled p q a) ≡ true
-limited_scaled p q (Fuel g) = limited_capped (nearest (g * p) q)
-limited_scaled p q NotKnown = refl
-limited_scaled p q Beyond = refl
+limited_scaled p q (Ok g) = limited_capped (nearest (g * p) q)
+limited_scaled p q (Err why) = refl
 
 module _ {E S : Type 0} (meaning : E → Designator → Measure → Answer) (laws : Laws meaning) (below : S → E) where
   known_equivalent : (s : S) (k : Kind) (x y : ℕ) (e : Option Equivalent) → known (by_equivalent (λ t. meaning (below s) t (of k x)) e) ≡ known (by_equivalent (λ t. meaning (below s) t (of k y)) e)

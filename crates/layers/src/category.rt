@@ -1,14 +1,14 @@
 // Categories of custom types, with their masses and coefficients.
 ghost use Rattle.std.specs.Prelude.{◌≡◌, ◌+◌, ◌*◌, ◌^◌, ◌<◌, ◌≤◌, unsigned_abs};
-ghost use Rattle.layers.specs.Equation.{category_number, category_of, mass_fits, coefficient as coefficient_of, linear as linear_of, value, grams as grams_of, equation};
+ghost use Rattle.layers.specs.Equation.{category_number, categorised, mass_fits, coefficient as coefficient_of, linear as linear_of, value, grams as grams_of, equation};
 ghost use Rattle.layers.specs.Above.{capped as at_most};
 
-use crate::equivalents::capped;
-use estimators::answers::Answer;
+use crate::layer::capped;
+use estimators::answers::{Answer, NoEstimate};
 use units::amounts::nearest;
-use units::measures::{Kind, Measure};
+use units::measures::{Kind, Measure, UnknownNumber};
 
-#[derive(Clone, Copy)]
+#[derive(Clone, Copy, Debug, PartialEq, Eq)]
 pub enum Category {
     HeavyJet,
     Jet,
@@ -17,7 +17,8 @@ pub enum Category {
 }
 
 // a, b, c and d of categories 1 to 4, by distance and then by time, in units of 10^-10 kg.
-const COEFFICIENTS: [i64; 32] = [
+// One flat table of 32 numbers, so that it is read beside the published one, and number by number is the contract's.
+const COEFFICIENTS: [i128; 32] = [
     -17_383_237_890_000,
     154_944_760,
     8_514_009_440,
@@ -52,30 +53,36 @@ const COEFFICIENTS: [i64; 32] = [
     4_394_200,
 ];
 
-impl Category {
-    pub(crate) fn number(self) -> u8
-        ensures { result ≡ category_number self }
-    {
-        match self {
+impl From<Category> for u8 {
+    ghost from_gives = { λ category number. number ≡ category_number category };
+
+    fn from(category: Category) -> u8 {
+        match category {
             Category::HeavyJet => 1,
             Category::Jet => 2,
             Category::LightJet => 3,
             Category::Turboprop => 4,
         }
     }
+}
 
-    pub(crate) fn of_number(number: u32) -> Option<Category>
-        ensures { result ≡ category_of number }
-    {
+impl TryFrom<u32> for Category {
+    type Error = UnknownNumber;
+
+    ghost try_from_gives = { λ number category. category ≡ categorised number };
+
+    fn try_from(number: u32) -> Result<Category, UnknownNumber> {
         match number {
-            1 => Some(Category::HeavyJet),
-            2 => Some(Category::Jet),
-            3 => Some(Category::LightJet),
-            4 => Some(Category::Turboprop),
-            _ => None,
+            1 => Ok(Category::HeavyJet),
+            2 => Ok(Category::Jet),
+            3 => Ok(Category::LightJet),
+            4 => Ok(Category::Turboprop),
+            _ => Err(UnknownNumber { number }),
         }
     }
+}
 
+impl Category {
     // Whether an average take-off mass, in kilograms, belongs to the category.
     pub(crate) fn has_mass(self, mass: u32) -> bool
         ensures { result ≡ mass_fits self mass }
@@ -89,41 +96,34 @@ impl Category {
     }
 }
 
-fn coefficient(kind: Kind, category: Category, j: usize) -> i64
-    requires { j < 4 }
-    ensures { result ≡ coefficient_of kind category j }
-{
-    let by_kind = 16 * (kind.number() as usize - 1);
-    let by_category = 4 * (category.number() as usize - 1);
-    COEFFICIENTS[by_kind + by_category + j]
-}
-
-// A coefficient at the width of the sums.
-fn wide_coefficient(kind: Kind, category: Category, j: usize) -> i128
+fn coefficient(kind: Kind, category: Category, j: usize) -> i128
     requires { j < 4 }
     ensures is { result ≡ coefficient_of kind category j }
     ensures small { unsigned_abs result ≤ 50000000000000 }
 {
-    coefficient(kind, category, j) as i128
+    let by_kind = 16 * (u8::from(kind) as usize - 1);
+    let by_category = 4 * (u8::from(category) as usize - 1);
+    COEFFICIENTS[by_kind + by_category + j]
 }
 
 // a + b x, exactly.
 fn linear(a: i128, b: i128, x: u32) -> i128
     requires { (unsigned_abs a < 2 ^ 80) × (unsigned_abs b < 2 ^ 80) }
     ensures is { result ≡ linear_of a b x }
-    ensures small { unsigned_abs result ≤ unsigned_abs a + unsigned_abs b * x }
+    ensures small { (unsigned_abs a ≤ 50000000000000) × (unsigned_abs b ≤ 50000000000000) → unsigned_abs result < 2 ^ 80 }
 {
     a + b * x as i128
 }
 
 // The equation's value, in units of 10^-10 kg.
+#[tactic(auto, unfolding(crate::specs::Equation::value))]
 fn value_of(kind: Kind, category: Category, mass: u32, amount: u32) -> i128
     ensures { result ≡ value kind category mass amount }
 {
-    let a = wide_coefficient(kind, category, 0);
-    let b = wide_coefficient(kind, category, 1);
-    let c = wide_coefficient(kind, category, 2);
-    let d = wide_coefficient(kind, category, 3);
+    let a = coefficient(kind, category, 0);
+    let b = coefficient(kind, category, 1);
+    let c = coefficient(kind, category, 2);
+    let d = coefficient(kind, category, 3);
     linear(linear(a, b, mass), linear(c, d, mass), amount)
 }
 
@@ -131,14 +131,9 @@ fn value_of(kind: Kind, category: Category, mass: u32, amount: u32) -> i128
 fn answer_at(value: i128) -> Answer
     ensures { result ≡ at_most (grams_of value) }
 {
-    if value < 0 {
-        return capped(0);
-    }
-    // From here on the grams pass the limit, and the value might not fit 64 bits.
-    if value >= 4_000_000_010_000_000 {
-        return Answer::Beyond;
-    }
-    capped(nearest(value as u64, 10_000_000))
+    // A value that does not fit 64 bits is far past the limit.
+    let value = u64::try_from(value.max(0)).map_err(|_| NoEstimate::Beyond)?;
+    capped(nearest(value, 10_000_000))
 }
 
 // The fuel of one flight by the generic equation.

@@ -1,85 +1,87 @@
 // Custom types by the generic equation, over any estimator.
-ghost use Rattle.std.specs.Prelude.{◌≡◌, true, []};
-ghost use Rattle.estimators.specs.Answers.{known};
+ghost use Rattle.std.specs.Prelude.{◌≡◌, true};
+ghost use Rattle.units.specs.declared.refusals.ListOwner.TheVariants.{OfEstimator};
+ghost use Rattle.estimators.specs.Answers.{known, within_limit};
 ghost use Rattle.lists.specs.Entries.{entries};
 ghost use Rattle.lists.specs.Listing.{after_adding};
-ghost use Rattle.layers.specs.Custom.{by_equation, customs};
-ghost use Rattle.layers.specs.Items.{custom_added, equivalent_added};
+ghost use Rattle.layers.specs.Custom.{in_category, customs};
+ghost use Rattle.layers.specs.Equation.{category_of};
+ghost use Rattle.layers.specs.Items.{custom_name, custom_formed, custom_fits, equivalent_added};
 ghost use Rattle.layers.specs.LayerLaws.{customs_laws};
 
 use crate::category::{Category, by_category};
 use crate::equivalents::Equivalents;
 use crate::items::{CustomType, Equivalent};
-use estimators::answers::Answer;
+use crate::layer::Layer;
+use estimators::answers::{Answer, NoEstimate, is_known};
 use estimators::asking::Estimator;
-use lists::short::ShortList;
-use units::codes::Designator;
+use lists::item::Item;
+use units::codes::{Designator, is_designator};
 use units::measures::Measure;
-use units::refusals::Refusal;
+use units::refusals::{ListOwner, Refusal};
 
-#[derive(Drop)]
-pub struct CustomTypes<E> {
-    below: E,
-    list: ShortList<CustomType, 64>,
-}
+// Custom types over an estimator.
+pub type CustomTypes<E> = Layer<E, CustomType>;
 
-fn estimate(item: Option<CustomType>, measure: Measure) -> Answer
-    ensures { result ≡ by_equation measure item }
-{
-    match item {
-        Some(found) => match Category::of_number(found.category) {
-            Some(category) => by_category(category, found.mass, measure),
-            None => Answer::NotKnown,
-        },
-        None => Answer::NotKnown,
+impl Item for CustomType {
+    ghost naming = { custom_name };
+
+    ghost formed = { custom_formed };
+
+    ghost fitting = { custom_fits };
+
+    ghost owner = { OfEstimator };
+
+    fn name(&self) -> [u8; 4] {
+        self.designator.bytes
+    }
+
+    fn is_formed(&self) -> bool {
+        is_designator(&self.designator.bytes)
+    }
+
+    fn is_fitting(&self) -> bool {
+        Category::try_from(self.category).is_ok_and(|category| category.has_mass(self.mass))
+    }
+
+    fn list_owner() -> ListOwner {
+        ListOwner::OfEstimator
     }
 }
 
-impl<E: Estimator> Estimator for CustomTypes<E> {
+impl CustomType {
+    // The fuel of one flight by the equation of its category.
+    fn estimate(self, measure: Measure) -> Answer
+        ensures { result ≡ in_category self.mass measure (category_of self.category) }
+    {
+        let category = Category::try_from(self.category).map_err(|_| NoEstimate::NotKnown)?;
+        by_category(category, self.mass, measure)
+    }
+}
+
+impl<E: Estimator> Estimator for Layer<E, CustomType> {
     ghost meaning = { λ s. customs (entries s.list) (E.Estimator.meaning s.below) };
 
     ghost laws = { customs_laws E.Estimator.meaning E.Estimator.laws (λ s. s.below) (λ s. entries s.list) };
 
     fn ask(&self, designator: Designator, measure: Measure) -> Answer
         ensures meant { result ≡ customs (entries self.now.list) (E.Estimator.meaning self.now.below) designator measure }
+        ensures limited { within_limit result ≡ true }
         ensures known_below { known (E.Estimator.meaning self.now.below designator measure) ≡ true → result ≡ E.Estimator.meaning self.now.below designator measure }
     {
         let own = self.below.ask(designator, measure);
-        if own.is_known() {
+        if is_known(own) {
             return own;
         }
-        estimate(self.list.find(designator.bytes), measure)
+        let item = self
+            .list
+            .find(designator.bytes)
+            .ok_or(NoEstimate::NotKnown)?;
+        item.estimate(measure)
     }
 }
 
-impl<E: Estimator> CustomTypes<E> {
-    // No custom types yet, over an estimator.
-    pub fn new(below: E) -> CustomTypes<E>
-        ensures estimator { result.below ≡ below }
-        ensures list { entries result.list ≡ [] }
-    {
-        let blank = CustomType {
-            designator: Designator { bytes: [0; 4] },
-            category: 0,
-            mass: 0,
-        };
-        CustomTypes {
-            below,
-            list: ShortList::new(blank),
-        }
-    }
-
-    // Lists a type; refused, the list stays as it is.
-    pub fn add(&mut self, item: CustomType) -> Result<(), Refusal>
-        ensures answer { result ≡ custom_added (entries self.old.list) item }
-        ensures after { entries self.new.list ≡ after_adding result (entries self.old.list) item }
-        ensures same { self.new.below ≡ self.old.below }
-    {
-        self.list.add(item)
-    }
-}
-
-impl<E: Estimator> CustomTypes<Equivalents<E>> {
+impl<E> CustomTypes<Equivalents<E>> {
     // Lists an equivalent in the layer below; refused, everything stays as it is.
     pub fn add_equivalent(&mut self, item: Equivalent) -> Result<(), Refusal>
         ensures answer { result ≡ equivalent_added (entries self.old.below.list) item }

@@ -1,15 +1,11 @@
 // The items of the estimators' short lists.
 ghost use Rattle.std.specs.Prelude.{◌≡◌};
-ghost use Rattle.units.specs.declared.refusals.ListOwner.TheVariants.{OfEstimator};
-ghost use Rattle.layers.specs.Items.{equivalent_name, equivalent_formed, equivalent_fits, ratio_part, custom_name, custom_formed, custom_fits};
+ghost use Rattle.layers.specs.Items.{no_equivalent, no_custom_type};
 
-use crate::category::Category;
-use lists::item::Item;
-use units::codes::{Designator, is_designator};
-use units::refusals::ListOwner;
+use units::codes::Designator;
 
 // A type that takes the answer of another, times p / q.
-#[derive(Clone, Copy)]
+#[derive(Clone, Copy, Debug, PartialEq, Eq)]
 pub struct Equivalent {
     pub designator: Designator,
     pub named: Designator,
@@ -18,70 +14,37 @@ pub struct Equivalent {
 }
 
 // A custom type: its category is a number from 1 to 4, its average take-off mass is in kilograms.
-#[derive(Clone, Copy)]
+#[derive(Clone, Copy, Debug, PartialEq, Eq)]
 pub struct CustomType {
     pub designator: Designator,
+    // A number, since the list refuses one of no category after its other checks.
     pub category: u32,
     pub mass: u32,
 }
 
-fn is_ratio_part(n: u32) -> bool
-    ensures { result ≡ ratio_part n }
-{
-    matches!(n, 1..=10_000)
-}
+// What fills a place of a list that is not used.
+impl Default for Equivalent {
+    ghost is_default = { λ e. e ≡ no_equivalent };
 
-impl Item for Equivalent {
-    ghost naming = { equivalent_name };
-
-    ghost formed = { equivalent_formed };
-
-    ghost fitting = { equivalent_fits };
-
-    ghost owner = { OfEstimator };
-
-    fn name(&self) -> [u8; 4] {
-        self.designator.bytes
-    }
-
-    fn is_formed(&self) -> bool {
-        is_designator(&self.designator.bytes) && is_designator(&self.named.bytes)
-    }
-
-    fn is_fitting(&self) -> bool {
-        is_ratio_part(self.p) && is_ratio_part(self.q)
-    }
-
-    fn list_owner() -> ListOwner {
-        ListOwner::OfEstimator
-    }
-}
-
-impl Item for CustomType {
-    ghost naming = { custom_name };
-
-    ghost formed = { custom_formed };
-
-    ghost fitting = { custom_fits };
-
-    ghost owner = { OfEstimator };
-
-    fn name(&self) -> [u8; 4] {
-        self.designator.bytes
-    }
-
-    fn is_formed(&self) -> bool {
-        is_designator(&self.designator.bytes)
-    }
-
-    fn is_fitting(&self) -> bool {
-        match Category::of_number(self.category) {
-            Some(category) => category.has_mass(self.mass),
-            None => false,
+    fn default() -> Equivalent {
+        let none = Designator { bytes: [0; 4] };
+        Equivalent {
+            designator: none,
+            named: none,
+            p: 0,
+            q: 0,
         }
     }
+}
 
-    fn list_owner() -> ListOwner {
-        ListOwner::OfEstimator
+impl Default for CustomType {
+    ghost is_default = { λ t. t ≡ no_custom_type };
+
+    fn default() -> CustomType {
+        CustomType {
+            designator: Designator { bytes: [0; 4] },
+            category: 0,
+            mass: 0,
+        }
     }
 }

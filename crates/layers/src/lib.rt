@@ -5,3 +5,4 @@ pub mod category;
 pub mod customs;
 pub mod equivalents;
 pub mod items;
+pub mod layer;

@@ -1,40 +1,19 @@
-use Rattle.std.proofs.Common.{◌≡◌, ◌^◌, ◌<◌, ◌≤◌, ℤ, nat_abs, sym, ◌∙◌, subst, to_z, of_z}
+use Rattle.std.proofs.Common.{◌^◌, ◌<◌, ◌≤◌, ℤ, nat_abs, sym, subst, rules, to_z, of_z}
 use lib.Signed.{mag}
 use mir.Syntax.{w128}
 use Rattle.std.proofs.lemmas.Int.{to_z-of_z}
-use Rattle.layers.specs.Equation.{value, linear}
-use Rattle.layers.proofs.Sizes.{line_small}
 use Rattle.layers.proofs.category.value_of.Goals as goal
 
--- a value that fits reads back from its bits
-back : (z : ℤ) → mag z < 2 ^ 127 → to_z w128 (of_z w128 z) ≡ z
-back z fits = to_z-of_z w128 z (record { sfits = fits })
+-- a value that fits is as small as it reads back from its bits
+small : (z : ℤ) → mag z < 2 ^ 127 → nat_abs z ≤ 50000000000000 → nat_abs (to_z w128 (of_z w128 z)) ≤ 50000000000000
+small z fits le = subst (λ y. nat_abs y ≤ 50000000000000) (sym (to_z-of_z w128 z (record { sfits = fits }))) le
 
 pub linear-requires-3 : goal.linear-requires-3
 linear-requires-3 c =
-    let a = back c.wide_coefficient-a.result c.wide_coefficient-a.type_inv in
-    let b = back c.wide_coefficient-b.result c.wide_coefficient-b.type_inv in
-    let p = back c.wide_coefficient-c.result c.wide_coefficient-c.type_inv in
-    let q = back c.wide_coefficient-d.result c.wide_coefficient-d.type_inv in
-    let first = line_small _ _ (nat_abs c.linear.result) c.args.mass
-    (subst (λ z. nat_abs z ≤ 50000000000000) (sym a) c.wide_coefficient-a.ensures.small)
-    (subst (λ z. nat_abs z ≤ 50000000000000) (sym b) c.wide_coefficient-b.ensures.small)
-    c.ranges.mass.fits c.linear.ensures.small in
-    let second = line_small _ _ (nat_abs c.linear-2.result) c.args.mass
-    (subst (λ z. nat_abs z ≤ 50000000000000) (sym p) c.wide_coefficient-c.ensures.small)
-    (subst (λ z. nat_abs z ≤ 50000000000000) (sym q) c.wide_coefficient-d.ensures.small)
-    c.ranges.mass.fits c.linear-2.ensures.small in (
-      subst (λ z. nat_abs z < 2 ^ 80) (sym (back c.linear.result c.linear.type_inv)) first,
-      subst (λ z. nat_abs z < 2 ^ 80) (sym (back c.linear-2.result c.linear-2.type_inv)) second,
-    )
-
-pub returns : goal.returns
-unfolding value
-returns c =
-    let a = back c.wide_coefficient-a.result c.wide_coefficient-a.type_inv ∙ c.wide_coefficient-a.ensures.is in
-    let b = back c.wide_coefficient-b.result c.wide_coefficient-b.type_inv ∙ c.wide_coefficient-b.ensures.is in
-    let p = back c.wide_coefficient-c.result c.wide_coefficient-c.type_inv ∙ c.wide_coefficient-c.ensures.is in
-    let q = back c.wide_coefficient-d.result c.wide_coefficient-d.type_inv ∙ c.wide_coefficient-d.ensures.is in
-    let first = back c.linear.result c.linear.type_inv ∙ c.linear.ensures.is ∙ (λ i. linear (a i) (b i) c.args.mass) in
-    let second = back c.linear-2.result c.linear-2.type_inv ∙ c.linear-2.ensures.is ∙ (λ i. linear (p i) (q i) c.args.mass) in
-    back c.linear-3.result c.linear-3.type_inv ∙ c.linear-3.ensures.is ∙ (λ i. linear (first i) (second i) c.args.amount)
+    let a = small c.coefficient-a.result c.coefficient-a.type_inv c.coefficient-a.ensures.small in
+    let b = small c.coefficient-b.result c.coefficient-b.type_inv c.coefficient-b.ensures.small in
+    let p = small c.coefficient-c.result c.coefficient-c.type_inv c.coefficient-c.ensures.small in
+    let q = small c.coefficient-d.result c.coefficient-d.type_inv c.coefficient-d.ensures.small in
+    let first = c.linear.ensures.small (a, b) in
+    let second = c.linear-2.ensures.small (p, q) in
+    search rules
