@@ -26,8 +26,10 @@ module _ {R : Type 0} (xs : List R) (n p : ℕ) where
 
   module _ (blank : R) (lt : p < n) (le : n ≤ length xs) where
     -- the records after p moved down, and a blank one written at the last of their places
-    pub moved_down : (ys : List R) → ys ≡ copy_within xs (p + 1) n p → set ys (n - 1) blank ≡ taken_out blank xs n p
-    moved_down ys is = ap (λ l. set l (n - 1) blank) is ∙ same_lists _ _ (search (rules, places)) (λ k d h. grind (arith, places, get_or-set_same, cases_eq k (n - 1)))
+    pub moved_down : (ys : List R) (end : ℕ) (r : R) → end ≡ n → r ≡ blank → ys ≡ copy_within xs (p + 1) end p → set ys (end - 1) r ≡ taken_out blank xs n p
+    moved_down ys end r last of is =
+        (λ i. set (is i) (last i - 1) (of i))
+        ∙ same_lists _ _ (search (rules, places)) (λ k d h. grind (arith, places, get_or-set_same, cases_eq k (n - 1)))
 
     -- the records: those before p, those after it
     pub taken_out_records : take (n - 1) (taken_out blank xs n p) ≡ take p xs ++ drop (suc p) (take n xs)

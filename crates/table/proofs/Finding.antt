@@ -1,5 +1,5 @@
 -- What a look-up by halving finds in a table in order, and in how many turns. Assumes nothing.
-use Rattle.std.proofs.Common.{refl, ◌≡◌, ℕ, zero, suc, ◌+◌, ◌-◌, ◌^◌, ◌<◌, ◌≤◌, true, List, length, get_or, take, Ordering, Less, Equal, Greater, sym, ap, ◌∙◌, subst, ⊎_elim, pow-suc, arith}
+use Rattle.std.proofs.Common.{Result, refl, ◌≡◌, ℕ, zero, suc, ◌+◌, ◌-◌, ◌^◌, ◌<◌, ◌≤◌, true, List, length, get_or, take, Ordering, Less, Equal, Greater, sym, ap, ◌∙◌, subst, ⊎_elim, pow-suc, arith, length-take}
 use Rattle.std.proofs.lemmas.Bool.{cases_lt, cases_eq}
 use Rattle.units.specs.Order.{earlier}
 use Rattle.units.proofs.Ordered.{earlier_trans}
@@ -99,10 +99,11 @@ module _ (order : ℕ → Ordering) where
 module _ {R : Type 0} (digits : R → List ℕ) (blank : R) (xs : List R) (n : ℕ) (k : List ℕ) where
   -- the look-up finds the record of the key where one is there, and else the place where it belongs
   pub located_tells : Rising digits blank (take n xs) → Told digits blank (take n xs) k (located digits blank xs n k)
-  located_tells rising = subst (Told digits blank (take n xs) k) (sym (located_searched digits blank xs n k)) (searched_tells digits blank (take n xs) k rising)
+  located_tells rising =
+      subst (Told digits blank (take n xs) k) (located_searched digits blank xs n k n (length-take n xs) _ refl) (searched_tells digits blank (take n xs) k rising)
 
-  pub located_finds : Finds digits blank xs n k (located digits blank xs n k)
-  located_finds = record {
-    told = located_tells;
-    brief = λ few. halved_brief (order_at digits blank xs k) 16 (used xs n) 0 (used xs n) (omega arith) (omega arith);
+  pub located_finds : (r : Result ℕ ℕ) → r ≡ located digits blank xs n k → Finds digits blank xs n k r
+  located_finds r is = record {
+    told = λ rising. subst (Told digits blank (take n xs) k) (sym is) (located_tells rising);
+    brief = λ few. is ∙ halved_brief (order_at digits blank xs k) 16 (used xs n) 0 (used xs n) (omega arith) (omega arith);
   }

@@ -1,5 +1,5 @@
 -- A loop that halves the places of records. Assumes nothing.
-use Rattle.std.proofs.Common.{Ok, Err, Result, ◌≡◌, ℕ, zero, suc, ◌+◌, ◌-◌, ◌<◌, ◌≤◌, ltb, List, length, get_or, take, Ordering, Less, Equal, Greater, sym, refl, ap, ◌∙◌, ⊎_elim, arith, length-take}
+use Rattle.std.proofs.Common.{Ok, Err, Result, ◌≡◌, ℕ, zero, suc, ◌+◌, ◌-◌, ◌<◌, ◌≤◌, ltb, List, length, get_or, min, take, Ordering, Less, Equal, Greater, sym, refl, ap, ◌∙◌, ⊎_elim, arith, length-take}
 use Rattle.std.proofs.lemmas.List.{get_or_read, get_or-take}
 use Rattle.std.proofs.lemmas.Bool.{cond-true, cond-false, lt-ltb, le-ltb, cases_lt}
 use Rattle.keys.specs.Compared.{compared}
@@ -16,39 +16,45 @@ module _ (order : ℕ → Ordering) where
   halved_end zero low high le = refl
   halved_end (suc turns) low high le = cond-false (ltb low high) _ _ (le-ltb low high le)
 
+module _ {R K : Type 0} (digits : K → List ℕ) (keyed : R → K) (blank : R) (rs : List R) (key : K) where
+  abbrev order : ℕ → Ordering
+  order = order_at (λ r. digits (keyed r)) blank rs (digits key)
+
+  abbrev answer : Result ℕ ℕ
+  answer = searched (λ r. digits (keyed r)) blank rs (digits key)
+
   -- the places from low to high that are left have the whole answer
-  pub record Left (answer : Result ℕ ℕ) (end low high : ℕ) : Type 0 where
+  pub record Left (low high : ℕ) : Type 0 where
     pub turns : ℕ
     pub enough : high ≤ low + turns
-    pub within : high ≤ end
+    pub within : high ≤ length rs
     pub ahead : halved order turns low high ≡ answer
 
-module _ {order : ℕ → Ordering} {answer : Result ℕ ℕ} {end low high : ℕ} (left : Left order answer end low high) where
-  module _ (lt : low < high) (at : ℕ) (mid : at ≡ middle low high) where
-    -- what the middle place decides
-    turned : (o : Ordering) → order at ≡ o → half o at (halved order (left.turns - 1) (at + 1) high) (halved order (left.turns - 1) low at) ≡ answer
-    turned o is =
-        let some : left.turns ≡ suc (left.turns - 1) = omega (arith, left.enough) in
-        sym (sym left.ahead ∙ ap (λ n. halved order n low high) some ∙ halved_turn order (left.turns - 1) low high lt
-        ∙ ap (λ m. half (order m) m (halved order (left.turns - 1) (m + 1) high) (halved order (left.turns - 1) low m)) (sym mid)
-        ∙ ap (λ q. half q at (halved order (left.turns - 1) (at + 1) high) (halved order (left.turns - 1) low at)) is)
+  pub left_all : Left 0 (length rs)
+  left_all = record { turns = length rs; enough = omega arith; within = omega arith; ahead = refl }
 
-    pub left_above : order at ≡ Less → Left order answer end (at + 1) high
-    left_above is = record { turns = left.turns - 1; enough = omega (arith, left.enough); within = left.within; ahead = turned Less is }
+  module _ (low high : ℕ) (left : Left low high) where
+    module _ (lt : low < high) (at : ℕ) (mid : at ≡ middle low high) (x : R) (read : x ≡ get_or rs at x) (k : K) (of : k ≡ keyed x) where
+      -- what the middle place decides
+      turned : (o : Ordering) → o ≡ compared (digits k) (digits key) → half o at (halved order (left.turns - 1) (at + 1) high) (halved order (left.turns - 1) low at) ≡ answer
+      turned o is =
+          let some : left.turns ≡ suc (left.turns - 1) = omega (arith, left.enough) in
+          let there : k ≡ keyed (get_or rs at blank) = of ∙ ap keyed (get_or_read rs at x (omega (arith, left.within)) read blank) in
+          ap (λ q. half q at (halved order (left.turns - 1) (at + 1) high) (halved order (left.turns - 1) low at)) (is ∙ ap (λ q. compared (digits q) (digits key)) there)
+          ∙ ap (λ m. half (order m) m (halved order (left.turns - 1) (m + 1) high) (halved order (left.turns - 1) low m)) mid
+          ∙ sym (ap (λ n. halved order n low high) some ∙ halved_turn order (left.turns - 1) low high lt) ∙ left.ahead
 
-    pub left_below : order at ≡ Greater → Left order answer end low at
-    left_below is = record { turns = left.turns - 1; enough = omega (arith, left.enough); within = omega (arith, left.within); ahead = turned Greater is }
+      pub left_above : Less ≡ compared (digits k) (digits key) → Left (at + 1) high
+      left_above is = record { turns = left.turns - 1; enough = omega (arith, left.enough); within = left.within; ahead = turned Less is }
 
-    pub left_found : order at ≡ Equal → Ok at ≡ answer
-    left_found is = turned Equal is
+      pub left_below : Greater ≡ compared (digits k) (digits key) → Left low at
+      left_below is = record { turns = left.turns - 1; enough = omega (arith, left.enough); within = omega (arith, left.within); ahead = turned Greater is }
 
-  pub left_none : high ≤ low → Err low ≡ answer
-  left_none le = sym (halved_end order left.turns low high le) ∙ left.ahead
+      pub left_found : Equal ≡ compared (digits k) (digits key) → Ok at ≡ answer
+      left_found is = turned Equal is
 
--- how a record that was read compares, by its key
-pub order_read : {R K : Type 0} (digits : K → List ℕ) (keyed : R → K) (blank : R) (rs : List R) (key : K) (i : ℕ) (x : R) (k : K) (o : Ordering) → i < length rs → x ≡ get_or rs i x → k ≡ keyed x → o ≡ compared (digits k) (digits key) → order_at (λ r. digits (keyed r)) blank rs (digits key) i ≡ o
-order_read digits keyed blank rs key i x k o inside read of is =
-    ap (λ r. compared (digits (keyed r)) (digits key)) (sym (get_or_read rs i x inside read blank)) ∙ ap (λ q. compared (digits q) (digits key)) (sym of) ∙ sym is
+    pub left_none : high ≤ low → Err low ≡ answer
+    left_none le = sym (halved_end order left.turns low high le) ∙ left.ahead
 
 -- only places below high are read
 halved_alike : (order other : ℕ → Ordering) (turns low high : ℕ) → ((i : ℕ) → i < high → order i ≡ other i) → halved order turns low high ≡ halved other turns low high
@@ -65,9 +71,9 @@ halved_alike order other (suc turns) low high alike =
     (cases_lt low high)
 
 -- a look-up reads the records alone
-pub located_searched : {R : Type 0} (digits : R → List ℕ) (blank : R) (xs : List R) (n : ℕ) (k : List ℕ) → located digits blank xs n k ≡ searched digits blank (take n xs) k
-located_searched digits blank xs n k =
-    let long = length-take n xs in
-    ap (λ m. halved (order_at digits blank xs k) m 0 m) (sym long)
-    ∙ halved_alike (order_at digits blank xs k) (order_at digits blank (take n xs) k) (length (take n xs)) 0 (length (take n xs))
-    (λ i lt. ap (λ x. compared (digits x) k) (sym (get_or-take n xs i blank (omega arith))))
+pub located_searched : {R : Type 0} (digits : R → List ℕ) (blank : R) (xs : List R) (n : ℕ) (k : List ℕ) (m : ℕ) → length (take m xs) ≡ min n (length xs) → (r : Result ℕ ℕ) → r ≡ searched digits blank (take m xs) k → r ≡ located digits blank xs n k
+located_searched digits blank xs n k m long r is =
+    let short = length-take m xs in
+    is ∙ ap (λ l. halved (order_at digits blank (take m xs) k) l 0 l) long
+    ∙ halved_alike (order_at digits blank (take m xs) k) (order_at digits blank xs k) (min n (length xs)) 0 (min n (length xs))
+    (λ i lt. ap (λ x. compared (digits x) k) (get_or-take m xs i blank (omega arith)))

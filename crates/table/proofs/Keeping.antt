@@ -4,12 +4,12 @@ use lib.Seq.{take-set-lt}
 use lib.ListN.{length-replicate}
 use Rattle.std.specs.List.{insert, remove}
 use Rattle.std.proofs.lemmas.List.Edits.{length-insert, length-remove}
-use Rattle.std.proofs.lemmas.List.{places, length-take-le, length-set, get_or-take, get_or-set_same, get_or-set_other, take-append-drop, drop-drop, drop-set-lt, drop-replicate}
+use Rattle.std.proofs.lemmas.List.{places, length-take, length-take-le, length-set, get_or-take, get_or-set_same, get_or-set_other, take-append-drop, drop-drop, drop-set-lt, drop-replicate}
 use Rattle.std.proofs.lemmas.Bool.{cases_lt, cases_eq, cases_order}
 use Rattle.units.specs.Order.{earlier}
-use Rattle.table.specs.Changing.{put_in, taken_out}
+use Rattle.table.specs.Changing.{used, put_in, taken_out}
 use Rattle.table.specs.Locating.{located}
-use Rattle.table.specs.Order.{Rising, Ordered, Between, Told, InOrder}
+use Rattle.table.specs.Order.{Rising, Ordered, Between, Told, InOrder, InsertsInOrder, ReplacesInOrder, RemovesInOrder, RemovesWhatWasPutIn}
 use Rattle.table.proofs.Contents.{put_in_inserted, put_in_rest, length_put_in, taken_out_removed, taken_out_rest, length_taken_out, removed_inserted, put_in_records, taken_out_records, set_records}
 use Rattle.table.proofs.Finding.{located_tells}
 
@@ -20,10 +20,6 @@ module _ {R : Type 0} (digits : R → List ℕ) (blank : R) where
       let long : length xs ≡ m = ap length is ∙ length-replicate m blank in
       let all : m ≡ length xs - 0 = omega arith in
       record { within = omega arith; rising = λ i j lt within. absurd (omega arith); rest = is ∙ ap (λ k. replicate k blank) all }
-
-  -- the same slice, told otherwise
-  pub in_order_at : (ys zs : List R) (n : ℕ) (rs : List R) → ys ≡ zs → InOrder digits blank zs n rs → InOrder digits blank ys n rs
-  in_order_at ys zs n rs e h = subst (λ l. InOrder digits blank l n rs) (sym e) h
 
   pub inserted_rises : (rs : List R) (p : ℕ) (r : R) → Rising digits blank rs → Between digits blank rs (digits r) p → Rising digits blank (insert rs p r)
   inserted_rises rs p r rising between i j lt within =
@@ -87,18 +83,6 @@ module _ {R : Type 0} (digits : R → List ℕ) (blank : R) where
           rest = drop-set-lt n xs p r lt ∙ ordered.rest ∙ ap (λ m. replicate m blank) (omega arith);
         }
 
-    -- the same with the records that there are then
-    pub insert_in_order : (r : R) → n < length xs → located digits blank xs n (digits r) ≡ Err p → InOrder digits blank (put_in xs n p r) (n + 1) (take p xs ++ r ∷ drop p (take n xs))
-    insert_in_order r lt free =
-        let between = free_between (digits r) free in
-        record { ordered = insert_keeps r lt free; records = put_in_records xs n p r (omega (arith, between.within, long)) lt }
-
-    pub remove_in_order : p < n → InOrder digits blank (taken_out blank xs n p) (n - 1) (take p xs ++ drop (suc p) (take n xs))
-    remove_in_order lt = record { ordered = remove_keeps lt; records = taken_out_records xs n p blank lt ordered.within }
-
-    pub replace_in_order : (r : R) → p < n → digits (get_or xs p blank) ≡ digits r → InOrder digits blank (set xs p r) n (take p xs ++ r ∷ drop (suc p) (take n xs))
-    replace_in_order r lt alike = record { ordered = replace_keeps r lt alike; records = set_records xs n p blank lt ordered.within r }
-
     -- put in and taken out at the same place, every place of the slice is as it was
     pub remove_undoes : (r : R) → p ≤ n → n < length xs → taken_out blank (put_in xs n p r) (n + 1) p ≡ xs
     remove_undoes r le lt =
@@ -109,3 +93,31 @@ module _ {R : Type 0} (digits : R → List ℕ) (blank : R) where
         (λ i. remove (put_in_inserted xs n p r le lt i) p ++ blank ∷ put_in_rest xs n p r le lt i)
         ∙ (λ i. removed_inserted (take n xs) p r inside i ++ rest i)
         ∙ take-append-drop n xs
+
+  -- what each change promises, of a slice ys that is what it leaves
+  module _ (xs : List R) (n p : ℕ) (ys : List R) where
+    pub inserts_in_order : (r : R) → n < length xs → ys ≡ put_in xs n p r → InsertsInOrder digits blank xs n p r ys
+    inserts_in_order r lt is = λ ordered free.
+        let between = free_between xs n p ordered (digits r) free in
+        subst (λ l. InOrder digits blank l (n + 1) (take p xs ++ r ∷ drop p (take n xs))) (sym is)
+        (record { ordered = insert_keeps xs n p ordered r lt free; records = put_in_records xs n p r (omega (arith, between.within, length-take n xs)) lt })
+
+    pub replaces_in_order : (r : R) → p < n → ys ≡ set xs p r → ReplacesInOrder digits blank xs n p r ys
+    replaces_in_order r lt is = λ ordered alike.
+        subst (λ l. InOrder digits blank l n (take p xs ++ r ∷ drop (suc p) (take n xs))) (sym is)
+        (record { ordered = replace_keeps xs n p ordered r lt alike; records = set_records xs n p blank lt ordered.within r })
+
+    module _ (lt : p < used xs n) (is : ys ≡ taken_out blank xs (used xs n) p) where
+      pub removes_in_order : RemovesInOrder digits blank xs n p ys
+      removes_in_order = λ ordered.
+          let all : used xs n ≡ n = omega (arith, ordered.within) in
+          let before : p < n = omega arith in
+          subst (λ l. InOrder digits blank l (n - 1) (take p xs ++ drop (suc p) (take n xs))) (sym (is ∙ ap (λ m. taken_out blank xs m p) all))
+          (record { ordered = remove_keeps xs n p ordered before; records = taken_out_records xs n p blank before ordered.within })
+
+      pub removes_what_was_put_in : RemovesWhatWasPutIn digits blank xs n p ys
+      removes_what_was_put_in = λ zs m r ordered room next was.
+          let before : p ≤ m = omega arith in
+          let long = length_put_in zs m p r before room in
+          let all : used xs n ≡ m + 1 = omega (arith, ap length was) in
+          is ∙ (λ i. taken_out blank (was i) (all i) p) ∙ remove_undoes zs m p ordered r before room

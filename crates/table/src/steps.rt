@@ -1,4 +1,5 @@
-// Steps over the slice of a table and the count of its records. Each works on any slice and any count.
+// Steps over the slice of a table and the count of its records. Each works on any slice and any count, and those that
+// change a table answer whether they did, as the library's sets do.
 ghost use Rattle.std.specs.Prelude.{Ok, ◌≡◌, ℕ, ◌+◌, ◌-◌, ◌<◌, ◌≤◌, true, length, drop, replicate, slice_index_or, slice_set};
 ghost use Rattle.table.specs.Changing.{used, holds, has_room, put_in, taken_out, read_at, after_insert, after_replace, after_remove};
 ghost use Rattle.table.specs.Locating.{searched, located};
