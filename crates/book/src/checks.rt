@@ -93,7 +93,7 @@ fn fuels_are_wrong(row: &[u8; 104]) -> bool
 fn count_is_wrong(row: &[u8; 104], columns: Columns) -> bool
     ensures { result ≡ count_wrong columns.distances columns.times row.now }
 {
-    let most = Kind::of_number(row[4] as u32).map_or(0, |kind| columns.of(kind));
+    let most = Kind::try_from(row[4] as u32).map_or(0, |kind| columns.of(kind));
     row[6] < 2 || most < row[6] as usize
 }
 
@@ -101,8 +101,8 @@ fn row_is_wrong(row: &[u8; 104], columns: Columns) -> bool
     ensures { result ≡ row_wrong columns.distances columns.times row.now }
 {
     !is_designator(&row[..4])
-        || Kind::of_number(row[4] as u32).is_none()
-        || Tier::of_number(row[5]).is_none()
+        || Kind::try_from(row[4] as u32).is_err()
+        || Tier::try_from(row[5]).is_err()
         || count_is_wrong(row, columns)
         || row[7] != 0
         || fuels_are_wrong(row)

@@ -12,6 +12,7 @@ use crate::checked::Book;
 use crate::checks::{check_book, column_at, fuel_at};
 use crate::format::{Aerodrome, Parts, Row, Tier, cut};
 use units::codes::{AerodromeCode, Designator};
+use units::marks;
 use units::measures::Kind;
 
 // The sections of the book that the bytes spell; of bytes that the check refuses, empty ones.
@@ -39,8 +40,8 @@ fn row_in(bytes: &[u8; 104]) -> Option<Row>
         designator: Designator {
             bytes: [a, b, c, d],
         },
-        kind: Kind::of_number(kind as u32)?,
-        tier: Tier::of_number(tier)?,
+        kind: Kind::try_from(kind as u32).ok()?,
+        tier: Tier::try_from(tier).ok()?,
         fuels: fuels as usize,
     })
 }
@@ -128,7 +129,7 @@ impl<'a> Book<'a> {
         ensures { result ≡ row_place (contents self.now) designator kind }
     {
         let [a, b, c, d] = designator.bytes;
-        let key = [a, b, c, d, kind.number()];
+        let key = [a, b, c, d, u8::from(kind)];
         self.rows()
             .binary_search_by(|row| row[..5].cmp(&key[..]))
             .ok()
@@ -154,8 +155,6 @@ impl<'a> Book<'a> {
     pub fn takes_part(&self, state: u16) -> bool
         ensures { result ≡ takes_part (contents self.now) state }
     {
-        let marks = self.parts.marks;
-        let number = state as usize;
-        1 <= number && number <= marks.len() && marks[number - 1] == 1
+        marks::takes_part(self.parts.marks, state)
     }
 }
