@@ -101,6 +101,7 @@ impl<'a> Book<'a> {
     }
 
     // Row `i`; none past the last.
+    #[tactic(auto, using(crate::proofs::Fronts::item_at))]
     pub fn row(&self, i: usize) -> Option<Row>
         ensures { result ≡ row_of (contents self.now) i }
     {
@@ -108,6 +109,7 @@ impl<'a> Book<'a> {
     }
 
     // How many fuels row `i` has; 0 past the last row.
+    #[tactic(auto, using(crate::proofs::Fronts::item_at))]
     pub fn fuel_count(&self, i: usize) -> usize
         ensures { result ≡ fuel_count_of (contents self.now) i }
     {
@@ -115,6 +117,7 @@ impl<'a> Book<'a> {
     }
 
     // Fuel `j` of row `i`, in kilograms; 0 past the last row or the last place for a fuel.
+    #[tactic(auto, using(crate::proofs::Fronts::item_at))]
     pub fn fuel(&self, i: usize, j: usize) -> u32
         ensures { result ≡ fuel_of (contents self.now) i j }
     {
@@ -136,6 +139,7 @@ impl<'a> Book<'a> {
     }
 
     // Aerodrome `i`; none past the last.
+    #[tactic(auto, using(crate::proofs::Fronts::item_at))]
     pub fn aerodrome(&self, i: usize) -> Option<Aerodrome>
         ensures { result ≡ aerodrome_of (contents self.now) i }
     {
