@@ -5,8 +5,7 @@ ghost use Rattle.book.specs.Bytes.{items};
 ghost use Rattle.book.specs.Check.{columns_checked, row_bad, rows_checked, aerodrome_bad, aerodromes_checked, marks_checked, items_checked, hold, checked};
 ghost use Rattle.book.specs.Items.{column, column_wrong, columns_for, fuel as fuel_of, fuel_wrong, row_wrong, aerodrome_wrong, count_wrong};
 ghost use Rattle.book.specs.Parts.{sections};
-ghost use Rattle.book.specs.Sections.{header as header_of, length_good, header_good, columns_good, offsets_good};
-ghost use Rattle.units.specs.declared.refusals.Refusal.TheVariants.{BookLength, BookHeader, BookOffsets};
+ghost use Rattle.book.specs.Sections.{header as header_of, header_good, columns_good, offsets_good};
 
 use crate::bytes::{items as items_in, u16_at, u32_at};
 use crate::format::{Header, Parts, Tier, cut};
@@ -33,6 +32,7 @@ impl Columns {
 }
 
 // The column at `i`; 0 past the last.
+#[tactic(auto, using(crate::proofs::Fronts::number_at))]
 pub(crate) fn column_at(columns: &[u8], i: usize) -> u16
     ensures { result ≡ column columns.now i }
 {
@@ -45,14 +45,12 @@ fn column_is_wrong(columns: &[u8], limit: u32, i: usize) -> bool
     ensures { result ≡ column_wrong limit columns.now i }
 {
     let at = column_at(columns, i);
-    if at as u32 > limit {
-        return true;
-    }
-    if i == 0 {
-        at != 0
-    } else {
-        at <= column_at(columns, i - 1)
-    }
+    at as u32 > limit
+        || if i == 0 {
+            at != 0
+        } else {
+            at <= column_at(columns, i - 1)
+        }
 }
 
 fn check_columns(columns: &[u8], limit: u32) -> Result<(), Refusal>
@@ -93,7 +91,7 @@ fn fuels_are_wrong(row: &[u8; 104]) -> bool
 fn count_is_wrong(row: &[u8; 104], columns: Columns) -> bool
     ensures { result ≡ count_wrong columns.distances columns.times row.now }
 {
-    let most = Kind::of_number(row[4] as u32).map_or(0, |kind| columns.of(kind));
+    let most = Kind::try_from(row[4] as u32).map_or(0, |kind| columns.of(kind));
     row[6] < 2 || most < row[6] as usize
 }
 
@@ -101,8 +99,8 @@ fn row_is_wrong(row: &[u8; 104], columns: Columns) -> bool
     ensures { result ≡ row_wrong columns.distances columns.times row.now }
 {
     !is_designator(&row[..4])
-        || Kind::of_number(row[4] as u32).is_none()
-        || Tier::of_number(row[5]).is_none()
+        || Kind::try_from(row[4] as u32).is_err()
+        || Tier::try_from(row[5]).is_err()
         || count_is_wrong(row, columns)
         || row[7] != 0
         || fuels_are_wrong(row)
@@ -158,6 +156,7 @@ fn check_marks(marks: &[u8]) -> Result<(), Refusal>
 }
 
 // The items of every section, in the order of the sections.
+#[tactic(auto, unfolding(crate::specs::Check::items_checked))]
 fn check_items(parts: Parts<'_>) -> Result<(), Refusal>
     ensures { result ≡ items_checked (sections parts.entry) }
 {
@@ -192,59 +191,46 @@ fn is_good_count(columns: u16) -> bool
     matches!(columns, 0 | 2..=24)
 }
 
-fn check_header(header: Header) -> Result<(), Refusal>
-    ensures { result ≡ hold (header_good header) BookHeader }
+fn is_good_header(header: Header) -> bool
+    ensures { result ≡ header_good header }
 {
-    let good = matches!(header.year, 2019..=2035)
+    matches!(header.year, 2019..=2035)
         && is_good_count(header.distances)
         && is_good_count(header.times)
         && header.rows <= 600
         && header.aerodromes <= 20_000
-        && matches!(header.states, 1..=193);
-    if good {
-        Ok(())
-    } else {
-        Err(Refusal::BookHeader)
-    }
+        && matches!(header.states, 1..=193)
 }
 
 // Each offset is where its section begins; the last one, and the bytes' length, where the book ends.
-fn check_offsets(bytes: &[u8], header: Header) -> Result<(), Refusal>
+fn offsets_are_good(bytes: &[u8], header: Header) -> bool
     requires { 36 ≤ length bytes.now }
-    ensures { result ≡ hold (offsets_good header bytes.now) BookOffsets }
+    ensures { result ≡ offsets_good header bytes.now }
 {
     let starts = header.starts();
-    let good = u32_at(bytes, 12) == 36
+    u32_at(bytes, 12) == 36
         && u32_at(bytes, 16) as usize == starts.times
         && u32_at(bytes, 20) as usize == starts.rows
         && u32_at(bytes, 24) as usize == starts.aerodromes
         && u32_at(bytes, 28) as usize == starts.marks
         && u32_at(bytes, 32) as usize == starts.end
-        && bytes.len() == starts.end;
-    if good {
-        Ok(())
-    } else {
-        Err(Refusal::BookOffsets)
-    }
+        && bytes.len() == starts.end
 }
 
-fn check_length(length: usize) -> Result<(), Refusal>
-    ensures { result ≡ hold (length_good length) BookLength }
+fn hold(good: bool, refusal: Refusal) -> Result<(), Refusal>
+    ensures { result ≡ hold good refusal }
 {
-    match length {
-        36..=1_048_576 => Ok(()),
-        _ => Err(Refusal::BookLength),
-    }
+    if good { Ok(()) } else { Err(refusal) }
 }
 
 // The first check that the bytes fail, or the header of the book that they spell.
 pub fn check_book(bytes: &[u8]) -> Result<Header, Refusal>
     ensures { result ≡ checked bytes.now }
 {
-    check_length(bytes.len())?;
+    hold(matches!(bytes.len(), 36..=1_048_576), Refusal::BookLength)?;
     let header = header(bytes);
-    check_header(header)?;
-    check_offsets(bytes, header)?;
+    hold(is_good_header(header), Refusal::BookHeader)?;
+    hold(offsets_are_good(bytes, header), Refusal::BookOffsets)?;
     check_items(cut(bytes, header))?;
     Ok(header)
 }

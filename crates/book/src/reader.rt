@@ -12,6 +12,7 @@ use crate::checked::Book;
 use crate::checks::{check_book, column_at, fuel_at};
 use crate::format::{Aerodrome, Parts, Row, Tier, cut};
 use units::codes::{AerodromeCode, Designator};
+use units::marks;
 use units::measures::Kind;
 
 // The sections of the book that the bytes spell; of bytes that the check refuses, empty ones.
@@ -39,8 +40,8 @@ fn row_in(bytes: &[u8; 104]) -> Option<Row>
         designator: Designator {
             bytes: [a, b, c, d],
         },
-        kind: Kind::of_number(kind as u32)?,
-        tier: Tier::of_number(tier)?,
+        kind: Kind::try_from(kind as u32).ok()?,
+        tier: Tier::try_from(tier).ok()?,
         fuels: fuels as usize,
     })
 }
@@ -100,6 +101,7 @@ impl<'a> Book<'a> {
     }
 
     // Row `i`; none past the last.
+    #[tactic(auto, using(crate::proofs::Fronts::item_at))]
     pub fn row(&self, i: usize) -> Option<Row>
         ensures { result ≡ row_of (contents self.now) i }
     {
@@ -107,6 +109,7 @@ impl<'a> Book<'a> {
     }
 
     // How many fuels row `i` has; 0 past the last row.
+    #[tactic(auto, using(crate::proofs::Fronts::item_at))]
     pub fn fuel_count(&self, i: usize) -> usize
         ensures { result ≡ fuel_count_of (contents self.now) i }
     {
@@ -114,6 +117,7 @@ impl<'a> Book<'a> {
     }
 
     // Fuel `j` of row `i`, in kilograms; 0 past the last row or the last place for a fuel.
+    #[tactic(auto, using(crate::proofs::Fronts::item_at))]
     pub fn fuel(&self, i: usize, j: usize) -> u32
         ensures { result ≡ fuel_of (contents self.now) i j }
     {
@@ -128,13 +132,14 @@ impl<'a> Book<'a> {
         ensures { result ≡ row_place (contents self.now) designator kind }
     {
         let [a, b, c, d] = designator.bytes;
-        let key = [a, b, c, d, kind.number()];
+        let key = [a, b, c, d, u8::from(kind)];
         self.rows()
             .binary_search_by(|row| row[..5].cmp(&key[..]))
             .ok()
     }
 
     // Aerodrome `i`; none past the last.
+    #[tactic(auto, using(crate::proofs::Fronts::item_at))]
     pub fn aerodrome(&self, i: usize) -> Option<Aerodrome>
         ensures { result ≡ aerodrome_of (contents self.now) i }
     {
@@ -154,8 +159,6 @@ impl<'a> Book<'a> {
     pub fn takes_part(&self, state: u16) -> bool
         ensures { result ≡ takes_part (contents self.now) state }
     {
-        let marks = self.parts.marks;
-        let number = state as usize;
-        1 <= number && number <= marks.len() && marks[number - 1] == 1
+        marks::takes_part(self.parts.marks, state)
     }
 }
