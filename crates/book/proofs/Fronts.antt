@@ -1,11 +1,24 @@
 -- The items of a run of bytes, and their first bytes. Assumes nothing.
-use Rattle.std.proofs.Common.{◌≡◌, ℕ, zero, suc, ◌+◌, ◌*◌, ◌<◌, ◌≤◌, List, length, get_or, take, drop, get_or-take, get_or-drop, refl, ap, ◌∙◌, arith, length-drop, drop-drop, mul-zero, mul-suc}
+use Rattle.std.proofs.Common.{◌≡◌, ℕ, zero, suc, ◌+◌, ◌*◌, ◌<◌, ◌≤◌, List, length, get_or, take, drop, get_or-take, get_or-drop, refl, ap, ◌∙◌, arith, length-drop, drop-drop, mul-zero, mul-suc, mul_comm, mul-le-mul_left, mul-one, mul-add, div-mul-le_self}
 use Rattle.std.proofs.lemmas.List.{length-take-le, take-take}
 use Rattle.std.specs.Simd.{first_chunks}
 use Rattle.book.specs.Bytes.{u16_at, items, items_of, front}
 
-pub front_length : (w k : ℕ) (bs : List ℕ) (i : ℕ) → w * i + k ≤ length bs → length (front w k bs i) ≡ k
-front_length w k bs i within =
+-- an item below the count lies within the bytes
+item_within : (w k : ℕ) (bs : List ℕ) (i : ℕ) → k ≤ w → i < items w bs → w * i + k ≤ length bs
+item_within w k bs i le lt =
+    let all = div-mul-le_self (length bs) w in
+    let some : i + 1 ≤ items w bs = omega arith in
+    let up = mul-le-mul_left w some in
+    let step = mul-add w i 1 in
+    let one = mul-one w in
+    let swap = mul_comm w (items w bs) in
+    omega arith
+
+-- the first bytes of an item are as many as asked for
+pub front_long : (w k : ℕ) (bs : List ℕ) (i : ℕ) → k ≤ w → i < items w bs → length (front w k bs i) ≡ k
+front_long w k bs i le lt =
+    let within = item_within w k bs i le lt in
     let long = length-drop (w * i) bs in
     length-take-le k (drop (w * i) bs) (omega arith)
 

@@ -17,17 +17,17 @@ module _ {T : Type 0} (w k : ℕ) (bs : List ℕ) (read : List ℕ → Option T)
   abbrev pub item : ℕ → Option T
   item i = cond (ltb i (items w bs)) (read (front w w bs i)) None
 
-  pub item_is : (i : ℕ) → i < items w bs → item i ≡ read (front w w bs i)
+  item_is : (i : ℕ) → i < items w bs → item i ≡ read (front w w bs i)
   item_is i lt = cond-true (ltb i (items w bs)) (read (front w w bs i)) None (lt-ltb i _ lt)
 
   -- a place that reads as a value lies below the count
-  pub below : (i : ℕ) (q : T) → item i ≡ Some q → i < items w bs
+  below : (i : ℕ) (q : T) → item i ≡ Some q → i < items w bs
   below i q is =
       ⊎_elim (λ lt. lt)
       (λ past. absurd (false≢true (ap is_some (sym (cond-false (ltb i (items w bs)) (read (front w w bs i)) None (le-ltb i _ past)) ∙ is))))
       (cases_lt i (items w bs))
 
-  pub key_at : (i : ℕ) (q : T) → item i ≡ Some q → key q ≡ front w k bs i
+  key_at : (i : ℕ) (q : T) → item i ≡ Some q → key q ≡ front w k bs i
   key_at i q is =
       let lt = below i q is in
       let there = reads i lt in

@@ -1,11 +1,11 @@
 -- A sound book keeps its promises. Assumes nothing.
-use Rattle.std.proofs.Common.{◌≡◌, ℕ, ◌*◌, ◌<◌, ◌≤◌, true, false, cond, not, eqb, ltb, List, [], ◌∷◌, ◌++◌, length, get_or, take, drop, is_some, Some, None, Option, sym, refl, ap, ◌∙◌, arith}
+use Rattle.std.proofs.Common.{◌≡◌, ℕ, ◌*◌, ◌<◌, ◌≤◌, true, false, not, eqb, ltb, List, [], ◌∷◌, ◌++◌, length, get_or, take, drop, is_some, Some, None, Option, sym, refl, ap, ◌∙◌, arith}
 use Rattle.std.proofs.lemmas.List.{take-take}
-use Rattle.std.proofs.lemmas.Bool.{false≢true, cond-true, cond_both, eqb-true, lt-ltb, or_parts, not-false, ltb-false}
+use Rattle.std.proofs.lemmas.Bool.{false≢true, cond-true, lt-ltb, or_parts, not-false, ltb-false}
+use Rattle.std.proofs.lemmas.Bool.Decides.{nat_tests}
 use Rattle.units.specs.Alphabet.{designator, aerodrome_code, state_number}
 use Rattle.units.specs.Measuring.{kind_number, kind_of}
 use Rattle.units.specs.declared.measures.Kind.{Kind}
-use Rattle.units.specs.declared.measures.Kind.TheVariants.{Distance, Time}
 use Rattle.book.specs.Bytes.{u16_at, items, front}
 use Rattle.book.specs.Check.{sound, spelled}
 use Rattle.book.specs.Contents.{bind, four, row_in, row_key, aerodrome_in}
@@ -15,8 +15,7 @@ use Rattle.book.specs.Sections.{Sections}
 use Rattle.book.specs.declared.format.Aerodrome.{Aerodrome}
 use Rattle.book.specs.declared.format.Row.{Row}
 use Rattle.book.specs.declared.format.Tier.{Tier}
-use Rattle.book.proofs.Fronts.{front_length}
-use Rattle.book.proofs.Searching.{item_within}
+use Rattle.book.proofs.Fronts.{front_long}
 use Rattle.book.proofs.Keyed.{Keyed, keys_rise, found, finds}
 use Rattle.book.proofs.Passing.{spelled_sound}
 use Rattle.book.proofs.Promises.{sound_good, columns_promised, rows_rise, aerodromes_rise, row_right, count_is, fuels_of}
@@ -47,12 +46,7 @@ value_of (Some x) e = record { value = x; is = refl }
 
 -- the kind that a number spells has that number
 number_of_kind : (n : ℕ) (k : Kind) → kind_of n ≡ Some k → kind_number k ≡ n
-number_of_kind n k is =
-    cond_both (eqb n 1) (Some Distance) (cond (eqb n 2) (Some Time) None) (λ o. o ≡ Some k → kind_number k ≡ n)
-    (λ one e. let same : Distance ≡ k = cc in ap kind_number (sym same) ∙ sym (eqb-true n 1 one))
-    (λ _. cond_both (eqb n 2) (Some Time) None (λ o. o ≡ Some k → kind_number k ≡ n)
-    (λ two e. let same : Time ≡ k = cc in ap kind_number (sym same) ∙ sym (eqb-true n 2 two))
-    (λ _ e. absurd (false≢true (ap is_some e)))) is
+number_of_kind n k is = grind (arith, nat_tests)
 
 -- what the rows and the aerodromes rise by
 abbrev key_of : Row → List ℕ
@@ -68,7 +62,7 @@ row_with r kind tier =
 
 module _ (s : Sections) (ok : sound s ≡ true) where
   row_long : (i : ℕ) → i < items 104 s.rows → length (front 104 104 s.rows i) ≡ 104
-  row_long i lt = front_length 104 104 s.rows i (item_within 104 104 s.rows i (omega arith) lt)
+  row_long i lt = front_long 104 104 s.rows i (omega arith) lt
 
   read_row : (i : ℕ) → i < items 104 s.rows → RowReads s i
   read_row i lt =
@@ -105,7 +99,7 @@ module _ (s : Sections) (ok : sound s ≡ true) where
   aerodrome_right i lt = (or_parts _ _ ((sound_good s ok).aerodromes i lt)).0
 
   aerodrome_long : (i : ℕ) → i < items 8 s.aerodromes → length (front 8 8 s.aerodromes i) ≡ 8
-  aerodrome_long i lt = front_length 8 8 s.aerodromes i (item_within 8 8 s.aerodromes i (omega arith) lt)
+  aerodrome_long i lt = front_long 8 8 s.aerodromes i (omega arith) lt
 
   read_aerodrome : (i : ℕ) → i < items 8 s.aerodromes → AerodromeReads s i
   read_aerodrome i lt =

@@ -1,5 +1,5 @@
 -- A search in a run of items that rise by their first bytes. Assumes nothing.
-use Rattle.std.proofs.Common.{◌≡◌, ℕ, ◌+◌, ◌-◌, ◌*◌, ◌<◌, ◌≤◌, Bool, true, false, not, ◌&&◌, ◌||◌, ltb, List, [], length, get_or, take, Some, Ok, Err, Result, sym, refl, ap, ◌∙◌, subst, ⊎_elim, mul_comm, mul-le-mul_left, mul-one, mul-add, div-mul-le_self, arith}
+use Rattle.std.proofs.Common.{◌≡◌, ℕ, ◌+◌, ◌-◌, ◌<◌, ◌≤◌, Bool, true, false, not, ◌&&◌, ◌||◌, ltb, List, [], length, get_or, take, Some, Ok, Err, Result, sym, refl, ap, ◌∙◌, subst, ⊎_elim, arith}
 use Rattle.std.proofs.lemmas.Bool.{false_from_ne_true, both_ways, cases_lt, lt-ltb}
 use Rattle.std.proofs.lemmas.Bool.Decides.{nat_tests}
 use Rattle.std.proofs.lemmas.Cmp.{same_from_slice_cmp, same_from_slice_cmp_tested, nat_list_cmp_total}
@@ -17,32 +17,21 @@ use Rattle.book.specs.Bytes.{items, items_of, front, find, Rising}
 use Rattle.book.specs.Items.{out_of_order}
 use Rattle.book.proofs.Fronts.{length_items, item_at, item_front}
 
--- an item below the count lies within the bytes
-pub item_within : (w k : ℕ) (bs : List ℕ) (i : ℕ) → k ≤ w → i < items w bs → w * i + k ≤ length bs
-item_within w k bs i le lt =
-    let all = div-mul-le_self (length bs) w in
-    let some : i + 1 ≤ items w bs = omega arith in
-    let up = mul-le-mul_left w some in
-    let step = mul-add w i 1 in
-    let one = mul-one w in
-    let swap = mul_comm w (items w bs) in
-    omega arith
-
 -- the order of keys is that of slices
-pub earlier_is : (xs ys : List ℕ) → is_lt (slice_cmp nat_cmp xs ys) ≡ earlier xs ys
+earlier_is : (xs ys : List ℕ) → is_lt (slice_cmp nat_cmp xs ys) ≡ earlier xs ys
 unfolding earlier
 earlier_is xs ys =
     same_from_slice_cmp nat_cmp is_lt earlier refl (λ _ _. refl) (λ _ _. refl)
     (λ x y xs ys o h. grind (arith, nat_tests)) xs ys _ refl
 
-pub same_is : (xs ys : List ℕ) → is_eq (slice_cmp nat_cmp xs ys) ≡ same xs ys
+same_is : (xs ys : List ℕ) → is_eq (slice_cmp nat_cmp xs ys) ≡ same xs ys
 unfolding same
 same_is xs ys =
     same_from_slice_cmp nat_cmp is_eq same refl (λ _ _. refl) (λ _ _. refl)
     (λ x y xs ys o h. grind (arith, nat_tests)) xs ys _ refl
 
 -- what `<=` of two slices tells
-pub not_after : (xs ys : List ℕ) (r : Bool) → r ≡ is_some_and is_le (slice_partial_cmp (λ x y. Some (nat_cmp x y)) xs ys) → r ≡ not (earlier ys xs)
+not_after : (xs ys : List ℕ) (r : Bool) → r ≡ is_some_and is_le (slice_partial_cmp (λ x y. Some (nat_cmp x y)) xs ys) → r ≡ not (earlier ys xs)
 unfolding earlier
 not_after =
     same_from_slice_cmp_tested nat_cmp is_le (λ a b. not (earlier b a)) refl (λ _ _. refl) (λ _ _. refl)
