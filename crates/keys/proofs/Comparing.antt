@@ -55,7 +55,7 @@ module _ (xs ys : List ℕ) where
   Tells Equal = xs ≡ ys
   Tells Greater = earlier ys xs ≡ true
 
-  pub compared_tells : (o : Ordering) → compared xs ys ≡ o → Tells o
-  compared_tells Less e = sym (is_earlier xs ys) ∙ ap is_lt e
-  compared_tells Equal e = exact_bytes xs ys e
-  compared_tells Greater e = sym (is_earlier ys xs) ∙ ap is_lt (nat_list_cmp_total.antisymm ys xs ∙ ap ordering_reverse e)
+  pub compared_tells : (o : Ordering) → o ≡ compared xs ys → Tells o
+  compared_tells Less e = sym (ap is_lt e ∙ is_earlier xs ys)
+  compared_tells Equal e = exact_bytes xs ys (sym e)
+  compared_tells Greater e = sym (ap (λ o. is_lt (ordering_reverse o)) e ∙ ap is_lt (sym (nat_list_cmp_total.antisymm ys xs)) ∙ is_earlier ys xs)

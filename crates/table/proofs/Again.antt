@@ -1,9 +1,10 @@
 -- A look-up in a table in order has one answer, also after a change. Assumes nothing.
-use Rattle.std.proofs.Common.{Ok, Err, Result, ◌≡◌, ℕ, ◌+◌, ◌-◌, ◌<◌, ◌≤◌, min, true, eqb, ltb, List, length, get_or, take, set, sym, ap, ◌∙◌, subst, ⊎_elim, arith}
+use Rattle.std.proofs.Common.{cond, Ok, Err, Result, ◌≡◌, ℕ, ◌+◌, ◌-◌, ◌<◌, ◌≤◌, min, true, eqb, ltb, List, length, get_or, take, set, sym, ap, ◌∙◌, subst, ⊎_elim, arith}
 use Rattle.std.specs.List.{insert, remove}
-use Rattle.std.proofs.lemmas.List.Edits.{length-insert, get_or-insert_at, length-remove, get_or-remove_below, get_or-remove_above}
-use Rattle.std.proofs.lemmas.List.{length-take-le, length-set, get_or-take}
-use Rattle.std.proofs.lemmas.Bool.{cond-true, cond-false, cases_lt, cases_eq, cases_order, both_ways, eq-eqb, ne_eqb, lt-ltb, le-ltb}
+use Rattle.std.proofs.lemmas.List.Edits.{length-insert, get_or-insert_at, length-remove}
+use Rattle.std.proofs.lemmas.List.{places, length-take-le, length-set, get_or-take}
+use Rattle.std.proofs.lemmas.Bool.Decides.{nat_tests}
+use Rattle.std.proofs.lemmas.Bool.{cond-true, cond-false, cases_lt, cases_eq, cases_order, both_ways, eq-eqb, ne_eqb}
 use Rattle.units.specs.Order.{earlier}
 use Rattle.units.proofs.Ordered.{same_not_earlier, equal_same}
 use Rattle.keys.specs.Compared.{compared}
@@ -47,64 +48,29 @@ module _ {R : Type 0} (digits : R → List ℕ) (blank : R) (rs : List R) (k : L
 
   -- what a place says of the records without the one at p
   module _ (p : ℕ) (inside : p < length rs) (rising : Rising digits blank rs) where
-    low : (m : ℕ) → m < p → get_or (remove rs p) m blank ≡ get_or rs m blank
-    low m lt = get_or-remove_below rs p blank m lt inside
-
-    high : (m : ℕ) → p ≤ m → get_or (remove rs p) m blank ≡ get_or rs (m + 1) blank
-    high m le = get_or-remove_above rs p blank m le inside
-
     fewer : length (remove rs p) + 1 ≡ length rs
     fewer = length-remove rs p inside
 
     at_p : digits (get_or rs p blank) ≡ k → Between digits blank (remove rs p) k p
     at_p here = record {
       within = omega (arith, fewer);
-      before = λ j lt. ap (λ x. earlier (digits x) k) (low j lt) ∙ ap (earlier (digits (get_or rs j blank))) (sym here) ∙ rising j p lt inside;
-      after = λ j le lt. ap (λ x. earlier k (digits x)) (high j le) ∙ ap (λ x. earlier x (digits (get_or rs (j + 1) blank))) (sym here) ∙ rising p (j + 1) (omega arith) (omega (arith, fewer));
-    }
-
-    past_p : (q : ℕ) → p < q → Between digits blank rs k q → Between digits blank (remove rs p) k (q - 1)
-    past_p q lt b = record {
-      within = omega (arith, fewer, b.within);
-      before = λ j l. ⊎_elim
-          (λ j<p. ap (λ x. earlier (digits x) k) (low j j<p) ∙ b.before j (omega arith))
-          (λ p≤j. ap (λ x. earlier (digits x) k) (high j p≤j) ∙ b.before (j + 1) (omega arith))
-          (cases_lt j p);
-      after = λ j le l. ap (λ x. earlier k (digits x)) (high j (omega arith)) ∙ b.after (j + 1) (omega arith) (omega (arith, fewer));
-    }
-
-    up_to_p : (q : ℕ) → q ≤ p → Between digits blank rs k q → Between digits blank (remove rs p) k q
-    up_to_p q le b = record {
-      within = omega (arith, fewer);
-      before = λ j l. ap (λ x. earlier (digits x) k) (low j (omega arith)) ∙ b.before j l;
-      after = λ j l h. ⊎_elim
-          (λ j<p. ap (λ x. earlier k (digits x)) (low j j<p) ∙ b.after j l (omega arith))
-          (λ p≤j. ap (λ x. earlier k (digits x)) (high j p≤j) ∙ b.after (j + 1) (omega arith) (omega (arith, fewer)))
-          (cases_lt j p);
+      before = λ j lt. grind (arith, places, rising j p);
+      after = λ j le lt. grind (arith, places, fewer, rising p (j + 1));
     }
 
     told_removed : (place : Result ℕ ℕ) → Told digits blank rs k place → Told digits blank (remove rs p) k (after_taking p place)
-    told_removed (Err q) b =
-        ⊎_elim
-        (λ lt. subst (Between digits blank (remove rs p) k) (sym (cond-true (ltb p q) (q - 1) q (lt-ltb p q lt))) (past_p q lt b))
-        (λ le. subst (Between digits blank (remove rs p) k) (sym (cond-false (ltb p q) (q - 1) q (le-ltb p q le))) (up_to_p q le b))
-        (cases_lt p q)
+    told_removed (Err q) b = record {
+      within = grind (arith, nat_tests, fewer, b.within);
+      before = λ j l. grind (arith, nat_tests, places, cases_lt j p, b.before j, b.before (j + 1));
+      after = λ j l h. grind (arith, nat_tests, places, fewer, cases_lt j p, b.after j, b.after (j + 1));
+    }
     told_removed (Ok i) t =
         let T = Told digits blank (remove rs p) k in
         ⊎_elim
-        (λ here. subst T (sym (cond-true (eqb i p) (Err p) _ (eq-eqb i p here))) (at_p (ap (λ m. digits (get_or rs m blank)) (sym here) ∙ t.1)))
+        (λ here. subst T (sym (cond-true (eqb i p) (Err p) _ (eq-eqb i p here))) (at_p (grind (arith, t.1))))
         (λ other.
-        subst T (sym (cond-false (eqb i p) (Err p) _ (ne_eqb i p other)))
-        (⊎_elim
-        (λ lt.
-        let back : i - 1 + 1 ≡ i = omega arith in
-        let found : T (Ok (i - 1)) = (omega (arith, fewer, t.0), ap digits (high (i - 1) (omega arith)) ∙ ap (λ m. digits (get_or rs m blank)) back ∙ t.1) in
-        subst (λ m. T (Ok m)) (sym (cond-true (ltb p i) (i - 1) i (lt-ltb p i lt))) found)
-        (λ le.
-        let before : i < p = omega arith in
-        let found : T (Ok i) = (omega (arith, fewer), ap digits (low i before) ∙ t.1) in
-        subst (λ m. T (Ok m)) (sym (cond-false (ltb p i) (i - 1) i (le-ltb p i le))) found)
-        (cases_lt p i)))
+        let found : T (Ok (cond (ltb p i) (i - 1) i)) = (grind (arith, nat_tests, fewer, t.0), grind (arith, nat_tests, places, cases_lt p i, t.1)) in
+        subst T (sym (cond-false (eqb i p) (Err p) _ (ne_eqb i p other))) found)
         (cases_eq i p)
 
 module _ {R : Type 0} (digits : R → List ℕ) (blank : R) (xs : List R) (n : ℕ) where

@@ -1,14 +1,13 @@
 -- What a look-up by halving finds in a table in order, and in how many turns. Assumes nothing.
-use Rattle.std.proofs.Common.{refl, ◌≡◌, ℕ, zero, suc, ◌+◌, ◌-◌, ◌^◌, ◌<◌, ◌≤◌, min, true, List, length, get_or, take, Ordering, Less, Equal, Greater, sym, ap, ◌∙◌, subst, ⊎_elim, pow-suc, arith, length-take}
-use Rattle.std.proofs.lemmas.List.{get_or-take}
+use Rattle.std.proofs.Common.{Result, refl, ◌≡◌, ℕ, zero, suc, ◌+◌, ◌-◌, ◌^◌, ◌<◌, ◌≤◌, true, List, length, get_or, take, Ordering, Less, Equal, Greater, sym, ap, ◌∙◌, subst, ⊎_elim, pow-suc, arith, length-take}
 use Rattle.std.proofs.lemmas.Bool.{cases_lt, cases_eq}
 use Rattle.units.specs.Order.{earlier}
 use Rattle.units.proofs.Ordered.{earlier_trans}
-use Rattle.keys.specs.Compared.{compared}
 use Rattle.keys.proofs.Comparing.{Tells, compared_tells}
-use Rattle.table.specs.Locating.{middle, half, halved, order_at, located}
-use Rattle.table.specs.Order.{Rising, Between, Told}
-use Rattle.table.proofs.Halving.{halved_turn, halved_end}
+use Rattle.table.specs.Changing.{used}
+use Rattle.table.specs.Locating.{middle, half, halved, order_at, searched, located}
+use Rattle.table.specs.Order.{Rising, Between, Told, Finds}
+use Rattle.table.proofs.Halving.{halved_turn, halved_end, located_searched}
 
 module _ {R : Type 0} (digits : R → List ℕ) (blank : R) (rs : List R) (k : List ℕ) (rising : Rising digits blank rs) where
   abbrev key_of : ℕ → List ℕ
@@ -50,43 +49,35 @@ module _ {R : Type 0} (digits : R → List ℕ) (blank : R) (rs : List R) (k : L
     after = λ i l h. n.above i (omega arith) h;
   }
 
-  module _ (order : ℕ → Ordering) (reads : (i : ℕ) → i < length rs → order i ≡ compared (key_of i) k) where
-    -- by what the middle place answers
-    turn_tells : (turns : ℕ) → ((low high : ℕ) → high ≤ low + turns → Narrowed low high → Told digits blank rs k (halved order turns low high)) → (low high : ℕ) → low < high → high ≤ low + suc turns → Narrowed low high → (o : Ordering) → Tells (key_of (middle low high)) k o
-        → Told digits blank rs k (half o (middle low high) (halved order turns (middle low high + 1) high) (halved order turns low (middle low high)))
-    turn_tells turns on low high lt enough n Less tells =
-        on (middle low high + 1) high (omega arith) (narrowed_up low high (middle low high) (omega arith) tells n)
-    turn_tells turns on low high lt enough n Equal tells = (omega (arith, n.within), tells)
-    turn_tells turns on low high lt enough n Greater tells =
-        on low (middle low high) (omega arith) (narrowed_down low high (middle low high) (omega arith) (omega arith) tells n)
+  abbrev order : ℕ → Ordering
+  order = order_at digits blank rs k
 
-    halved_tells : (turns low high : ℕ) → high ≤ low + turns → Narrowed low high → Told digits blank rs k (halved order turns low high)
-    halved_tells zero low high enough n =
-        subst (Told digits blank rs k) (sym (halved_end order zero low high (omega arith))) (narrowed_none low high (omega arith) n)
-    halved_tells (suc turns) low high enough n =
-        ⊎_elim
-        (λ lt.
-        let told = turn_tells turns (halved_tells turns) low high lt enough n (compared (key_of (middle low high)) k) (compared_tells (key_of (middle low high)) k _ refl) in
-        let is = reads (middle low high) (omega (arith, n.within)) in
-        subst (Told digits blank rs k)
-        (ap (λ o. half o (middle low high) (halved order turns (middle low high + 1) high) (halved order turns low (middle low high))) (sym is) ∙ sym (halved_turn order turns low high lt))
-        told)
-        (λ le. subst (Told digits blank rs k) (sym (halved_end order (suc turns) low high le)) (narrowed_none low high le n))
-        (cases_lt low high)
+  -- by what the middle place answers
+  turn_tells : (turns : ℕ) → ((low high : ℕ) → high ≤ low + turns → Narrowed low high → Told digits blank rs k (halved order turns low high)) → (low high : ℕ) → low < high → high ≤ low + suc turns → Narrowed low high → (o : Ordering) → Tells (key_of (middle low high)) k o
+      → Told digits blank rs k (half o (middle low high) (halved order turns (middle low high + 1) high) (halved order turns low (middle low high)))
+  turn_tells turns on low high lt enough n Less tells =
+      on (middle low high + 1) high (omega arith) (narrowed_up low high (middle low high) (omega arith) tells n)
+  turn_tells turns on low high lt enough n Equal tells = (omega (arith, n.within), tells)
+  turn_tells turns on low high lt enough n Greater tells =
+      on low (middle low high) (omega arith) (narrowed_down low high (middle low high) (omega arith) (omega arith) tells n)
 
--- the look-up finds the record of the key where one is there, and else the place where it belongs
-pub located_tells : {R : Type 0} (digits : R → List ℕ) (blank : R) (xs : List R) (n : ℕ) (k : List ℕ) → Rising digits blank (take n xs) → Told digits blank (take n xs) k (located digits blank xs n k)
-located_tells digits blank xs n k rising =
-    let long = length-take n xs in
-    halved_tells digits blank (take n xs) k rising (order_at digits blank xs k)
-    (λ i lt. ap (λ x. compared (digits x) k) (sym (get_or-take n xs i blank (omega arith))))
-    (min n (length xs)) 0 (min n (length xs)) (omega arith)
-    (record {
-      forward = omega arith;
-      within = omega arith;
-      below = λ i lt. absurd (omega arith);
-      above = λ i le lt. absurd (omega arith);
-    })
+  halved_tells : (turns low high : ℕ) → high ≤ low + turns → Narrowed low high → Told digits blank rs k (halved order turns low high)
+  halved_tells zero low high enough n =
+      subst (Told digits blank rs k) (sym (halved_end order zero low high (omega arith))) (narrowed_none low high (omega arith) n)
+  halved_tells (suc turns) low high enough n =
+      ⊎_elim
+      (λ lt. subst (Told digits blank rs k) (sym (halved_turn order turns low high lt))
+      (turn_tells turns (halved_tells turns) low high lt enough n (order (middle low high)) (compared_tells (key_of (middle low high)) k _ refl)))
+      (λ le. subst (Told digits blank rs k) (sym (halved_end order (suc turns) low high le)) (narrowed_none low high le n))
+      (cases_lt low high)
+
+  searched_tells : Told digits blank rs k (searched digits blank rs k)
+  searched_tells = halved_tells (length rs) 0 (length rs) (omega arith) (record {
+    forward = omega arith;
+    within = omega arith;
+    below = λ i lt. absurd (omega arith);
+    above = λ i le lt. absurd (omega arith);
+  })
 
 module _ (order : ℕ → Ordering) where
   -- places below 2 ^ k need no more than k turns
@@ -104,3 +95,15 @@ module _ (order : ℕ → Ordering) where
       ∙ sym (halved_turn order k low high lt))
       (λ le. halved_end order turns low high le ∙ sym (halved_end order (suc k) low high le))
       (cases_lt low high)
+
+module _ {R : Type 0} (digits : R → List ℕ) (blank : R) (xs : List R) (n : ℕ) (k : List ℕ) where
+  -- the look-up finds the record of the key where one is there, and else the place where it belongs
+  pub located_tells : Rising digits blank (take n xs) → Told digits blank (take n xs) k (located digits blank xs n k)
+  located_tells rising =
+      subst (Told digits blank (take n xs) k) (located_searched digits blank xs n k n (length-take n xs) _ refl) (searched_tells digits blank (take n xs) k rising)
+
+  pub located_finds : (r : Result ℕ ℕ) → r ≡ located digits blank xs n k → Finds digits blank xs n k r
+  located_finds r is = record {
+    told = λ rising. subst (Told digits blank (take n xs) k) (sym is) (located_tells rising);
+    brief = λ few. is ∙ halved_brief (order_at digits blank xs k) 16 (used xs n) 0 (used xs n) (omega arith) (omega arith);
+  }

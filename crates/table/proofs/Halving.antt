@@ -1,9 +1,9 @@
--- A loop that halves a table. Assumes nothing.
-use Rattle.std.proofs.Common.{Ok, Err, Result, ◌≡◌, ℕ, zero, suc, ◌+◌, ◌-◌, ◌<◌, ◌≤◌, ltb, List, length, get_or, Ordering, Less, Equal, Greater, sym, refl, ap, ◌∙◌, arith}
-use Rattle.std.proofs.lemmas.List.{get_or_read}
-use Rattle.std.proofs.lemmas.Bool.{cond-true, cond-false, lt-ltb, le-ltb}
+-- A loop that halves the places of records. Assumes nothing.
+use Rattle.std.proofs.Common.{Ok, Err, Result, ◌≡◌, ℕ, zero, suc, ◌+◌, ◌-◌, ◌<◌, ◌≤◌, ltb, List, length, get_or, min, take, Ordering, Less, Equal, Greater, sym, refl, ap, ◌∙◌, ⊎_elim, arith, length-take}
+use Rattle.std.proofs.lemmas.List.{get_or_read, get_or-take}
+use Rattle.std.proofs.lemmas.Bool.{cond-true, cond-false, lt-ltb, le-ltb, cases_lt}
 use Rattle.keys.specs.Compared.{compared}
-use Rattle.table.specs.Locating.{middle, half, halved, order_at}
+use Rattle.table.specs.Locating.{middle, half, halved, order_at, searched, located}
 
 module _ (order : ℕ → Ordering) where
   -- one more turn, while places are left
@@ -16,51 +16,64 @@ module _ (order : ℕ → Ordering) where
   halved_end zero low high le = refl
   halved_end (suc turns) low high le = cond-false (ltb low high) _ _ (le-ltb low high le)
 
-  -- the places from low to high that are left have the whole table's answer
-  pub record Left (answer : Result ℕ ℕ) (end low high : ℕ) : Type 0 where
+module _ {R K : Type 0} (digits : K → List ℕ) (keyed : R → K) (blank : R) (rs : List R) (key : K) where
+  abbrev order : ℕ → Ordering
+  order = order_at (λ r. digits (keyed r)) blank rs (digits key)
+
+  abbrev answer : Result ℕ ℕ
+  answer = searched (λ r. digits (keyed r)) blank rs (digits key)
+
+  -- the places from low to high that are left have the whole answer
+  pub record Left (low high : ℕ) : Type 0 where
     pub turns : ℕ
     pub enough : high ≤ low + turns
-    pub within : high ≤ end
+    pub within : high ≤ length rs
     pub ahead : halved order turns low high ≡ answer
 
-  module _ (answer : Result ℕ ℕ) (end low high : ℕ) (left : Left answer end low high) where
-    module _ (lt : low < high) where
+  pub left_all : Left 0 (length rs)
+  left_all = record { turns = length rs; enough = omega arith; within = omega arith; ahead = refl }
+
+  module _ (low high : ℕ) (left : Left low high) where
+    module _ (lt : low < high) (at : ℕ) (mid : at ≡ middle low high) (x : R) (read : x ≡ get_or rs at x) (k : K) (of : k ≡ keyed x) where
       -- what the middle place decides
-      turned : answer ≡ half (order (middle low high)) (middle low high) (halved order (left.turns - 1) (middle low high + 1) high) (halved order (left.turns - 1) low (middle low high))
-      turned =
+      turned : (o : Ordering) → o ≡ compared (digits k) (digits key) → half o at (halved order (left.turns - 1) (at + 1) high) (halved order (left.turns - 1) low at) ≡ answer
+      turned o is =
           let some : left.turns ≡ suc (left.turns - 1) = omega (arith, left.enough) in
-          sym left.ahead ∙ ap (λ n. halved order n low high) some ∙ halved_turn (left.turns - 1) low high lt
+          let there : k ≡ keyed (get_or rs at blank) = of ∙ ap keyed (get_or_read rs at x (omega (arith, left.within)) read blank) in
+          ap (λ q. half q at (halved order (left.turns - 1) (at + 1) high) (halved order (left.turns - 1) low at)) (is ∙ ap (λ q. compared (digits q) (digits key)) there)
+          ∙ ap (λ m. half (order m) m (halved order (left.turns - 1) (m + 1) high) (halved order (left.turns - 1) low m)) mid
+          ∙ sym (ap (λ n. halved order n low high) some ∙ halved_turn order (left.turns - 1) low high lt) ∙ left.ahead
 
-      pub left_above : order (middle low high) ≡ Less → Left answer end (middle low high + 1) high
-      left_above is = record {
-        turns = left.turns - 1;
-        enough = omega (arith, left.enough);
-        within = left.within;
-        ahead = sym (turned ∙ ap (λ o. half o (middle low high) (halved order (left.turns - 1) (middle low high + 1) high) (halved order (left.turns - 1) low (middle low high))) is);
-      }
+      pub left_above : Less ≡ compared (digits k) (digits key) → Left (at + 1) high
+      left_above is = record { turns = left.turns - 1; enough = omega (arith, left.enough); within = left.within; ahead = turned Less is }
 
-      pub left_below : order (middle low high) ≡ Greater → Left answer end low (middle low high)
-      left_below is = record {
-        turns = left.turns - 1;
-        enough = omega (arith, left.enough);
-        within = omega (arith, left.within);
-        ahead = sym (turned ∙ ap (λ o. half o (middle low high) (halved order (left.turns - 1) (middle low high + 1) high) (halved order (left.turns - 1) low (middle low high))) is);
-      }
+      pub left_below : Greater ≡ compared (digits k) (digits key) → Left low at
+      left_below is = record { turns = left.turns - 1; enough = omega (arith, left.enough); within = omega (arith, left.within); ahead = turned Greater is }
 
-      pub left_found : order (middle low high) ≡ Equal → Ok (middle low high) ≡ answer
-      left_found is = sym (turned ∙ ap (λ o. half o (middle low high) (halved order (left.turns - 1) (middle low high + 1) high) (halved order (left.turns - 1) low (middle low high))) is)
+      pub left_found : Equal ≡ compared (digits k) (digits key) → Ok at ≡ answer
+      left_found is = turned Equal is
 
     pub left_none : high ≤ low → Err low ≡ answer
-    left_none le = sym (halved_end left.turns low high le) ∙ left.ahead
+    left_none le = sym (halved_end order left.turns low high le) ∙ left.ahead
 
-  pub left_all : (n end : ℕ) → n ≡ end → Left (halved order n 0 n) end 0 end
-  left_all n end is = record {
-    turns = n;
-    enough = omega arith;
-    within = omega arith;
-    ahead = ap (halved order n 0) (sym is);
-  }
+-- only places below high are read
+halved_alike : (order other : ℕ → Ordering) (turns low high : ℕ) → ((i : ℕ) → i < high → order i ≡ other i) → halved order turns low high ≡ halved other turns low high
+unfolding halved
+halved_alike order other zero low high alike = refl
+halved_alike order other (suc turns) low high alike =
+    ⊎_elim
+    (λ lt.
+    let at : order (middle low high) ≡ other (middle low high) = alike (middle low high) (omega arith) in
+    let up = halved_alike order other turns (middle low high + 1) high alike in
+    let down = halved_alike order other turns low (middle low high) (λ i below. alike i (omega arith)) in
+    halved_turn order turns low high lt ∙ (λ i. half (at i) (middle low high) (up i) (down i)) ∙ sym (halved_turn other turns low high lt))
+    (λ le. halved_end order (suc turns) low high le ∙ sym (halved_end other (suc turns) low high le))
+    (cases_lt low high)
 
--- how a record that was read compares
-pub order_read : {R : Type 0} (digits : R → List ℕ) (blank : R) (xs : List R) (k : List ℕ) (i : ℕ) (x : R) → i < length xs → x ≡ get_or xs i x → (o : Ordering) → o ≡ compared (digits x) k → order_at digits blank xs k i ≡ o
-order_read digits blank xs k i x lt is o e = ap (λ y. compared (digits y) k) (sym (get_or_read xs i x lt is blank)) ∙ sym e
+-- a look-up reads the records alone
+pub located_searched : {R : Type 0} (digits : R → List ℕ) (blank : R) (xs : List R) (n : ℕ) (k : List ℕ) (m : ℕ) → length (take m xs) ≡ min n (length xs) → (r : Result ℕ ℕ) → r ≡ searched digits blank (take m xs) k → r ≡ located digits blank xs n k
+located_searched digits blank xs n k m long r is =
+    let short = length-take m xs in
+    is ∙ ap (λ l. halved (order_at digits blank (take m xs) k) l 0 l) long
+    ∙ halved_alike (order_at digits blank (take m xs) k) (order_at digits blank xs k) (min n (length xs)) 0 (min n (length xs))
+    (λ i lt. ap (λ x. compared (digits x) k) (get_or-take m xs i blank (omega arith)))

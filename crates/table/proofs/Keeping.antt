@@ -1,15 +1,15 @@
 -- Changes keep a table in order. Assumes nothing.
-use Rattle.std.proofs.Common.{Err, ◌≡◌, ℕ, suc, ◌+◌, ◌-◌, ◌<◌, ◌≤◌, true, List, ◌∷◌, ◌++◌, length, get_or, take, drop, set, replicate, sym, ap, ◌∙◌, subst, ⊎_elim, arith}
+use Rattle.std.proofs.Common.{Err, ◌≡◌, ℕ, suc, ◌+◌, ◌-◌, ◌<◌, ◌≤◌, List, ◌∷◌, ◌++◌, length, get_or, take, drop, set, replicate, sym, ap, ◌∙◌, subst, arith}
 use lib.Seq.{take-set-lt}
 use lib.ListN.{length-replicate}
 use Rattle.std.specs.List.{insert, remove}
-use Rattle.std.proofs.lemmas.List.Edits.{length-insert, get_or-insert_below, get_or-insert_at, get_or-insert_above, length-remove, get_or-remove_below, get_or-remove_above}
-use Rattle.std.proofs.lemmas.List.{length-take-le, length-set, get_or-take, get_or-set_same, get_or-set_other, take-append-drop, drop-drop, drop-set-lt, drop-replicate}
+use Rattle.std.proofs.lemmas.List.Edits.{length-insert, length-remove}
+use Rattle.std.proofs.lemmas.List.{places, length-take, length-take-le, length-set, get_or-take, get_or-set_same, get_or-set_other, take-append-drop, drop-drop, drop-set-lt, drop-replicate}
 use Rattle.std.proofs.lemmas.Bool.{cases_lt, cases_eq, cases_order}
 use Rattle.units.specs.Order.{earlier}
-use Rattle.table.specs.Changing.{put_in, taken_out}
+use Rattle.table.specs.Changing.{used, put_in, taken_out}
 use Rattle.table.specs.Locating.{located}
-use Rattle.table.specs.Order.{Rising, Ordered, Between, Told, InOrder}
+use Rattle.table.specs.Order.{Rising, Ordered, Between, Told, InOrder, InsertsInOrder, ReplacesInOrder, RemovesInOrder, RemovesWhatWasPutIn}
 use Rattle.table.proofs.Contents.{put_in_inserted, put_in_rest, length_put_in, taken_out_removed, taken_out_rest, length_taken_out, removed_inserted, put_in_records, taken_out_records, set_records}
 use Rattle.table.proofs.Finding.{located_tells}
 
@@ -21,63 +21,25 @@ module _ {R : Type 0} (digits : R → List ℕ) (blank : R) where
       let all : m ≡ length xs - 0 = omega arith in
       record { within = omega arith; rising = λ i j lt within. absurd (omega arith); rest = is ∙ ap (λ k. replicate k blank) all }
 
-  -- the same slice, told otherwise
-  pub in_order_at : (ys zs : List R) (n : ℕ) (rs : List R) → ys ≡ zs → InOrder digits blank zs n rs → InOrder digits blank ys n rs
-  in_order_at ys zs n rs e h = subst (λ l. InOrder digits blank l n rs) (sym e) h
-
-  -- both keys told by other records
-  earlier_at : (a b c d : R) → a ≡ c → b ≡ d → earlier (digits c) (digits d) ≡ true → earlier (digits a) (digits b) ≡ true
-  earlier_at a b c d e f h = (λ i. earlier (digits (e i)) (digits (f i))) ∙ h
-
   pub inserted_rises : (rs : List R) (p : ℕ) (r : R) → Rising digits blank rs → Between digits blank rs (digits r) p → Rising digits blank (insert rs p r)
   inserted_rises rs p r rising between i j lt within =
-      let long = length-insert rs p r between.within in
-      let low = λ (m : ℕ) (h : m < p). get_or-insert_below rs p r blank m h between.within in
-      let here = get_or-insert_at rs p r blank between.within in
-      let high : (m : ℕ) → p < m → get_or (insert rs p r) m blank ≡ get_or rs (m - 1) blank =
-      λ m h. let e : m ≡ m - 1 + 1 = omega arith in
-      ap (λ q. get_or (insert rs p r) q blank) e ∙ get_or-insert_above rs p r blank (m - 1) (omega arith) between.within in
-      let at = λ (m : ℕ). get_or (insert rs p r) m blank in
-      ⊎_elim
-      (λ jp. earlier_at (at i) (at j) (get_or rs i blank) r (low i (omega arith)) (ap at jp ∙ here) (between.before i (omega arith)))
-      (⊎_elim
-      (λ j<p. earlier_at (at i) (at j) (get_or rs i blank) (get_or rs j blank) (low i (omega arith)) (low j j<p) (rising i j lt (omega (arith, between.within))))
-      (λ p<j. ⊎_elim
-      (λ ip. earlier_at (at i) (at j) r (get_or rs (j - 1) blank) (ap at ip ∙ here) (high j p<j) (between.after (j - 1) (omega arith) (omega arith)))
-      (⊎_elim
-      (λ i<p. earlier_at (at i) (at j) (get_or rs i blank) (get_or rs (j - 1) blank) (low i i<p) (high j p<j) (rising i (j - 1) (omega arith) (omega arith)))
-      (λ p<i. earlier_at (at i) (at j) (get_or rs (i - 1) blank) (get_or rs (j - 1) blank) (high i p<i) (high j p<j) (rising (i - 1) (j - 1) (omega arith) (omega arith))))
-      (cases_order i p)))
-      (cases_order j p)
+      let bound = between.within in
+      let long = length-insert rs p r bound in
+      grind (arith, places, cases_order i p, cases_order j p, rising i j, rising i (j - 1), rising (i - 1) (j - 1), between.before i, between.after (j - 1))
 
   pub removed_rises : (rs : List R) (p : ℕ) → p < length rs → Rising digits blank rs → Rising digits blank (remove rs p)
   removed_rises rs p inside rising i j lt within =
       let long = length-remove rs p inside in
-      let low = λ (m : ℕ) (h : m < p). get_or-remove_below rs p blank m h inside in
-      let high = λ (m : ℕ) (h : p ≤ m). get_or-remove_above rs p blank m h inside in
-      ⊎_elim
-      (λ j<p. earlier_at _ _ _ _ (low i (omega arith)) (low j j<p) (rising i j lt (omega arith)))
-      (λ p≤j. ⊎_elim
-      (λ i<p. earlier_at _ _ _ _ (low i i<p) (high j p≤j) (rising i (j + 1) (omega arith) (omega arith)))
-      (λ p≤i. earlier_at _ _ _ _ (high i p≤i) (high j p≤j) (rising (i + 1) (j + 1) (omega arith) (omega arith)))
-      (cases_lt i p))
-      (cases_lt j p)
+      grind (arith, places, cases_lt i p, cases_lt j p, rising i j, rising i (j + 1), rising (i + 1) (j + 1))
 
   -- a record of the same key in the place of another: each place keeps its key
   pub kept_key : (rs : List R) (p : ℕ) (r : R) → p < length rs → digits (get_or rs p blank) ≡ digits r → (i : ℕ) → digits (get_or (set rs p r) i blank) ≡ digits (get_or rs i blank)
-  kept_key rs p r inside alike i =
-      ⊎_elim
-      (λ here. ap (λ m. digits (get_or (set rs p r) m blank)) here ∙ ap digits (get_or-set_same rs p r blank inside) ∙ sym alike ∙ ap (λ m. digits (get_or rs m blank)) (sym here))
-      (λ other. ap digits (get_or-set_other rs p i r blank other))
-      (cases_eq i p)
+  kept_key rs p r inside alike i = grind (arith, get_or-set_same, get_or-set_other, cases_eq i p)
 
   pub replaced_rises : (rs : List R) (p : ℕ) (r : R) → p < length rs → digits (get_or rs p blank) ≡ digits r → Rising digits blank rs → Rising digits blank (set rs p r)
   replaced_rises rs p r inside alike rising i j lt within =
       let long = length-set rs p r in
-      let at = kept_key rs p r inside alike in
-      let a = at i in
-      let b = at j in
-      (λ m. earlier (a m) (b m)) ∙ rising i j lt (omega arith)
+      (λ m. earlier (kept_key rs p r inside alike i m) (kept_key rs p r inside alike j m)) ∙ rising i j lt (omega arith)
 
   -- the rest, further on
   rest_on : (xs : List R) (n m : ℕ) → drop n xs ≡ replicate (length xs - n) blank → drop (n + m) xs ≡ replicate (length xs - n - m) blank
@@ -96,47 +58,30 @@ module _ {R : Type 0} (digits : R → List ℕ) (blank : R) where
         let between = free_between (digits r) free in
         let le : p ≤ n = omega (arith, between.within, long) in
         let same_length = length_put_in xs n p r le lt in
-        let left : length xs - n - 1 ≡ length (put_in xs n p r) - (n + 1) = omega arith in
         record {
           within = omega arith;
           rising = subst (Rising digits blank) (sym (put_in_inserted xs n p r le lt)) (inserted_rises (take n xs) p r ordered.rising between);
-          rest = put_in_rest xs n p r le lt ∙ rest_on xs n 1 ordered.rest ∙ ap (λ m. replicate m blank) left;
+          rest = put_in_rest xs n p r le lt ∙ rest_on xs n 1 ordered.rest ∙ ap (λ m. replicate m blank) (omega arith);
         }
 
     pub remove_keeps : p < n → Ordered digits blank (taken_out blank xs n p) (n - 1)
     remove_keeps lt =
         let same_length = length_taken_out xs n p blank lt ordered.within in
-        let inside : p < length (take n xs) = omega (arith, long) in
-        let left : suc (length xs - n) ≡ length (taken_out blank xs n p) - (n - 1) = omega (arith, ordered.within) in
         record {
           within = omega (arith, ordered.within);
-          rising = subst (Rising digits blank) (sym (taken_out_removed xs n p blank lt ordered.within)) (removed_rises (take n xs) p inside ordered.rising);
-          rest = taken_out_rest xs n p blank lt ordered.within ∙ ap (λ l. blank ∷ l) ordered.rest ∙ ap (λ m. replicate m blank) left;
+          rising = subst (Rising digits blank) (sym (taken_out_removed xs n p blank lt ordered.within)) (removed_rises (take n xs) p (omega (arith, long)) ordered.rising);
+          rest = taken_out_rest xs n p blank lt ordered.within ∙ ap (λ l. blank ∷ l) ordered.rest ∙ ap (λ m. replicate m blank) {x = suc (length xs - n)} (omega (arith, ordered.within));
         }
 
     pub replace_keeps : (r : R) → p < n → digits (get_or xs p blank) ≡ digits r → Ordered digits blank (set xs p r) n
     replace_keeps r lt alike =
         let same_length = length-set xs p r in
-        let inside : p < length (take n xs) = omega (arith, long) in
-        let left : length xs - n ≡ length (set xs p r) - n = omega arith in
         record {
           within = omega (arith, ordered.within);
           rising = subst (Rising digits blank) (sym (take-set-lt n xs p r lt))
-              (replaced_rises (take n xs) p r inside (ap digits (get_or-take n xs p blank lt) ∙ alike) ordered.rising);
-          rest = drop-set-lt n xs p r lt ∙ ordered.rest ∙ ap (λ m. replicate m blank) left;
+              (replaced_rises (take n xs) p r (omega (arith, long)) (ap digits (get_or-take n xs p blank lt) ∙ alike) ordered.rising);
+          rest = drop-set-lt n xs p r lt ∙ ordered.rest ∙ ap (λ m. replicate m blank) (omega arith);
         }
-
-    -- the same with the records that there are then
-    pub insert_in_order : (r : R) → n < length xs → located digits blank xs n (digits r) ≡ Err p → InOrder digits blank (put_in xs n p r) (n + 1) (take p xs ++ r ∷ drop p (take n xs))
-    insert_in_order r lt free =
-        let between = free_between (digits r) free in
-        record { ordered = insert_keeps r lt free; records = put_in_records xs n p r (omega (arith, between.within, long)) lt }
-
-    pub remove_in_order : p < n → InOrder digits blank (taken_out blank xs n p) (n - 1) (take p xs ++ drop (suc p) (take n xs))
-    remove_in_order lt = record { ordered = remove_keeps lt; records = taken_out_records xs n p blank lt ordered.within }
-
-    pub replace_in_order : (r : R) → p < n → digits (get_or xs p blank) ≡ digits r → InOrder digits blank (set xs p r) n (take p xs ++ r ∷ drop (suc p) (take n xs))
-    replace_in_order r lt alike = record { ordered = replace_keeps r lt alike; records = set_records xs n p blank lt ordered.within r }
 
     -- put in and taken out at the same place, every place of the slice is as it was
     pub remove_undoes : (r : R) → p ≤ n → n < length xs → taken_out blank (put_in xs n p r) (n + 1) p ≡ xs
@@ -148,3 +93,31 @@ module _ {R : Type 0} (digits : R → List ℕ) (blank : R) where
         (λ i. remove (put_in_inserted xs n p r le lt i) p ++ blank ∷ put_in_rest xs n p r le lt i)
         ∙ (λ i. removed_inserted (take n xs) p r inside i ++ rest i)
         ∙ take-append-drop n xs
+
+  -- what each change promises, of a slice ys that is what it leaves
+  module _ (xs : List R) (n p : ℕ) (ys : List R) where
+    pub inserts_in_order : (r : R) → n < length xs → ys ≡ put_in xs n p r → InsertsInOrder digits blank xs n p r ys
+    inserts_in_order r lt is = λ ordered free.
+        let between = free_between xs n p ordered (digits r) free in
+        subst (λ l. InOrder digits blank l (n + 1) (take p xs ++ r ∷ drop p (take n xs))) (sym is)
+        (record { ordered = insert_keeps xs n p ordered r lt free; records = put_in_records xs n p r (omega (arith, between.within, length-take n xs)) lt })
+
+    pub replaces_in_order : (r : R) → p < n → ys ≡ set xs p r → ReplacesInOrder digits blank xs n p r ys
+    replaces_in_order r lt is = λ ordered alike.
+        subst (λ l. InOrder digits blank l n (take p xs ++ r ∷ drop (suc p) (take n xs))) (sym is)
+        (record { ordered = replace_keeps xs n p ordered r lt alike; records = set_records xs n p blank lt ordered.within r })
+
+    module _ (lt : p < used xs n) (is : ys ≡ taken_out blank xs (used xs n) p) where
+      pub removes_in_order : RemovesInOrder digits blank xs n p ys
+      removes_in_order = λ ordered.
+          let all : used xs n ≡ n = omega (arith, ordered.within) in
+          let before : p < n = omega arith in
+          subst (λ l. InOrder digits blank l (n - 1) (take p xs ++ drop (suc p) (take n xs))) (sym (is ∙ ap (λ m. taken_out blank xs m p) all))
+          (record { ordered = remove_keeps xs n p ordered before; records = taken_out_records xs n p blank before ordered.within })
+
+      pub removes_what_was_put_in : RemovesWhatWasPutIn digits blank xs n p ys
+      removes_what_was_put_in = λ zs m r ordered room next was.
+          let before : p ≤ m = omega arith in
+          let long = length_put_in zs m p r before room in
+          let all : used xs n ≡ m + 1 = omega (arith, ap length was) in
+          is ∙ (λ i. taken_out blank (was i) (all i) p) ∙ remove_undoes zs m p ordered r before room

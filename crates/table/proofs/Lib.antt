@@ -3,5 +3,4 @@ pub mod Contents
 pub mod Finding
 pub mod Halving
 pub mod Keeping
-pub mod Moving
 pub mod Rows

@@ -27,6 +27,10 @@ module _ {R : Type 0} (digits : R → List ℕ) (blank : R) where
   abbrev pub order_at : List R → List ℕ → ℕ → Ordering
   order_at xs k i = compared (digits (slice_index_or xs i blank)) k
 
+  -- the place of a key among records, or where it would go
+  abbrev pub searched : List R → List ℕ → Result ℕ ℕ
+  searched rs k = halved (order_at rs k) (length rs) 0 (length rs)
+
   -- the place of the key among the first n records, or where it would go
   abbrev pub located : List R → ℕ → List ℕ → Result ℕ ℕ
   located xs n k = halved (order_at xs k) (min n (length xs)) 0 (min n (length xs))

@@ -1,5 +1,5 @@
 // A table over a slice that its caller lends and gets back whole.
-ghost use Rattle.std.specs.Prelude.{Ok, ◌≡◌, ℕ, ◌+◌, ◌-◌, true, length, replicate, if◌then◌else◌, slice_index_or};
+ghost use Rattle.std.specs.Prelude.{Ok, ◌≡◌, ℕ, ◌+◌, ◌-◌, ◌≤◌, true, length, replicate, if◌then◌else◌, slice_index_or};
 ghost use Rattle.table.specs.Changing.{used, holds, has_room, read_at, after_insert, after_replace, after_remove};
 ghost use Rattle.table.specs.Locating.{located};
 ghost use Rattle.table.specs.Order.{Ordered, Finds, InsertsInOrder, ReplacesInOrder, RemovesInOrder, RemovesWhatWasPutIn};
@@ -16,6 +16,7 @@ pub const MOST_PLACES: usize = 32_768;
 pub struct Table<'a, R: Record> {
     slots: &'a mut [R],
     count: usize,
+    ghost within: { count ≤ length slots.now },
 }
 
 impl<'a, R: Record> Table<'a, R> {
@@ -25,15 +26,15 @@ impl<'a, R: Record> Table<'a, R> {
         ensures lent { result.slots.ghost_name ≡ slots.entry.ghost_name }
         ensures count { result.count ≡ used slots.old count }
     {
-        let count = count.min(slots.len());
+        let count = steps::used(slots, count);
         Table { slots, count }
     }
 
     // How many records it has.
     pub fn count(&self) -> usize
-        ensures { result ≡ used self.now.slots.now self.now.count }
+        ensures { result ≡ self.now.count }
     {
-        self.count.min(self.slots.len())
+        self.count
     }
 
     pub fn locate(&self, key: R::Key) -> Result<usize, usize>
@@ -41,15 +42,13 @@ impl<'a, R: Record> Table<'a, R> {
         ensures finds { Finds (λ x. R.Key.Key.digits (R.keyed x)) R.unused self.now.slots.now self.now.count (R.Key.Key.digits key) result }
         ensures found { (i : ℕ) → result ≡ Ok i → R.keyed (slice_index_or self.now.slots.now i R.unused) ≡ key }
     {
-        let count = self.count;
-        steps::locate(self.slots, count, key)
+        steps::locate(self.slots, self.count, key)
     }
 
     pub fn read(&self, place: usize) -> Option<R>
         ensures { result ≡ read_at R.unused self.now.slots.now self.now.count place }
     {
-        let count = self.count;
-        steps::read(self.slots, count, place)
+        steps::read(self.slots, self.count, place)
     }
 
     pub fn insert(&mut self, place: usize, row: R) -> bool
@@ -59,10 +58,9 @@ impl<'a, R: Record> Table<'a, R> {
         ensures ordered { result ≡ true → InsertsInOrder (λ x. R.Key.Key.digits (R.keyed x)) R.unused self.old.slots.now self.old.count place row self.new.slots.now }
         ensures lent { self.new.slots.ghost_name ≡ self.old.slots.ghost_name }
     {
-        let count = self.count;
-        let done = steps::insert(self.slots, count, place, row);
+        let done = steps::insert(self.slots, self.count, place, row);
         if done {
-            self.count = count + 1;
+            self.count += 1;
         }
         done
     }
@@ -74,23 +72,20 @@ impl<'a, R: Record> Table<'a, R> {
         ensures ordered { result ≡ true → ReplacesInOrder (λ x. R.Key.Key.digits (R.keyed x)) R.unused self.old.slots.now self.old.count place row self.new.slots.now }
         ensures lent { self.new.slots.ghost_name ≡ self.old.slots.ghost_name }
     {
-        let count = self.count;
-        steps::replace(self.slots, count, place, row)
+        steps::replace(self.slots, self.count, place, row)
     }
 
     pub fn remove(&mut self, place: usize) -> bool
         ensures answer { result ≡ holds self.old.slots.now self.old.count place }
         ensures slots { self.new.slots.now ≡ after_remove R.unused self.old.slots.now self.old.count place }
-        ensures count { self.new.count ≡ (if result then used self.old.slots.now self.old.count - 1 else self.old.count) }
+        ensures count { self.new.count ≡ (if result then self.old.count - 1 else self.old.count) }
         ensures ordered { result ≡ true → RemovesInOrder (λ x. R.Key.Key.digits (R.keyed x)) R.unused self.old.slots.now self.old.count place self.new.slots.now }
         ensures undone { result ≡ true → RemovesWhatWasPutIn (λ x. R.Key.Key.digits (R.keyed x)) R.unused self.old.slots.now self.old.count place self.new.slots.now }
         ensures lent { self.new.slots.ghost_name ≡ self.old.slots.ghost_name }
     {
-        let count = self.count;
-        let records = self.count();
-        let done = steps::remove(self.slots, count, place);
+        let done = steps::remove(self.slots, self.count, place);
         if done {
-            self.count = records - 1;
+            self.count -= 1;
         }
         done
     }
@@ -110,7 +105,6 @@ impl<'a, R: Record> Table<'a, R> {
         ensures slots { result.now ≡ self.entry.slots.now }
         ensures lent { result.ghost_name ≡ self.entry.slots.ghost_name }
     {
-        let slots = self.slots;
-        slots
+        self.slots
     }
 }
