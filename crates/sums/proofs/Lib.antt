@@ -1,3 +1,4 @@
+pub mod Adding
 pub mod Balance
 pub mod Places
 pub mod Reading

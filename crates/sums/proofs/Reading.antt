@@ -1,9 +1,10 @@
 -- What a table in order has under each key: that fixes the table, and changes change it at one key. Assumes nothing.
 use Rattle.std.proofs.Common.{◌≡◌, ℕ, zero, suc, ◌+◌, ◌-◌, ◌<◌, ◌≤◌, true, cond, eqb, ltb, ◌⊎◌, List, [], ◌∷◌, ◌++◌, length, get_or, take, drop, set, replicate, Some, None, Option, sym, refl, ap, ◌∙◌, subst, inl, inr, ⊎_elim, arith, Ok, Err, Result}
+use Rattle.std.proofs.lemmas.Grind.{common_steps}
 use Rattle.std.specs.List.{insert}
-use Rattle.std.proofs.lemmas.List.Edits.{get_or-insert_below, get_or-insert_at, get_or-insert_above}
+use Rattle.std.proofs.lemmas.List.Edits.{get_or-insert_above}
 use Rattle.std.proofs.lemmas.List.{length-take-le, get_or-take, get_or-set_same, get_or-set_other, take-append-drop}
-use Rattle.std.proofs.lemmas.Bool.{both_ways, cond-true, cond-false, cases_lt, cases_Bool, lt-ltb, le-ltb, ne_eqb}
+use Rattle.std.proofs.lemmas.Bool.{both_ways, cond-false, cases_Bool, ne_eqb}
 use Rattle.units.specs.Order.{earlier, same}
 use Rattle.units.proofs.Ordered.{same_not_earlier, equal_same, same_equal}
 use Rattle.keys.proofs.Comparing.{earlier_not_later}
@@ -18,7 +19,7 @@ use Rattle.table.proofs.Rows.{rising_tail, rising_head}
 
 -- no key stands before itself
 apart : (k l : List ℕ) → k ≡ l → earlier k l ≡ true → ⊥
-apart k l e h = both_ways (earlier k l) (ap (earlier k) (sym e) ∙ same_not_earlier k k (equal_same k)) h
+apart k l e h = grind (arith, same_not_earlier, equal_same)
 
 pub alike_or_not : (k l : List ℕ) → (k ≡ l) ⊎ (k ≡ l → ⊥)
 alike_or_not k l =
@@ -31,12 +32,9 @@ module _ {R : Type 0} (digits : R → List ℕ) (blank : R) where
   abbrev Among : List R → R → Type 0
   Among rs r = (i : ℕ) × (i < length rs) × (get_or rs i blank ≡ r)
 
-  first_or_later : (s : R) (ss : List R) (r : R) (i : ℕ) → i < length (s ∷ ss) → get_or (s ∷ ss) i blank ≡ r → (s ≡ r) ⊎ Among ss r
-  first_or_later s ss r zero lt e = inl e
-  first_or_later s ss r (suc i) lt e = inr (i, omega arith, e)
-
   among_cons : (s : R) (ss : List R) (r : R) → Among (s ∷ ss) r → (s ≡ r) ⊎ Among ss r
-  among_cons s ss r a = first_or_later s ss r a.0 a.1 a.2
+  among_cons s ss r (zero, lt, e) = inl e
+  among_cons s ss r (suc i, lt, e) = inr (i, omega arith, e)
 
   after_first : (s : R) (ss : List R) (r : R) → Rising digits blank (s ∷ ss) → Among ss r → earlier (digits s) (digits r) ≡ true
   after_first s ss r rising a = ap (λ w. earlier (digits s) (digits w)) (sym a.2) ∙ rising_head digits blank s ss rising a.0 a.1
@@ -81,9 +79,9 @@ module _ {R : Type 0} (digits : R → List ℕ) (blank : R) where
   at_some : (ys : List R) (m : ℕ) (k : List ℕ) (r : R) → m ≤ length ys → (place : Result ℕ ℕ) → Told digits blank (take m ys) k place → at_place ys place ≡ Some r → Among (take m ys) r
   at_some ys m k r le (Ok j) told e =
       let long = length-take-le m ys le in
-      let is : get_or ys j blank ≡ r = cc in
-      (j, told.0, get_or-take m ys j blank (omega (arith, told.0)) ∙ is)
-  at_some ys m k r le (Err p) told e = let z : ◌≡◌ {A = ℕ} 0 1 = cc in absurd (omega arith)
+      let low : j < m = omega (arith, told.0) in
+      (j, told.0, grind (arith, get_or-take))
+  at_some ys m k r le (Err p) told e = absurd cc
 
   module _ (xs ys : List R) (n m : ℕ) (a : Ordered digits blank xs n) (b : Ordered digits blank ys m) (alike : (k : List ℕ) → under xs n k ≡ under ys m k) where
     among_other : (i : ℕ) → i < length (take n xs) → Among (take m ys) (get_or (take n xs) i blank)
@@ -136,23 +134,22 @@ module _ {R : Type 0} (digits : R → List ℕ) (blank : R) where
       long = length-take-le n xs ordered.within
 
       pub put_at : get_or (put_in xs n p r) p blank ≡ r
-      put_at = getD_put p (omega arith) ∙ get_or-insert_at (take n xs) p r blank (omega (arith, long))
+      put_at = grind (arith, common_steps)
 
       put_below : (i : ℕ) → i < p → get_or (put_in xs n p r) i blank ≡ get_or xs i blank
-      put_below i low = getD_put i (omega arith) ∙ get_or-insert_below (take n xs) p r blank i low (omega (arith, long)) ∙ get_or-take n xs i blank (omega arith)
+      put_below i low = grind (arith, common_steps)
 
       put_above : (i : ℕ) → p ≤ i → i < n → get_or (put_in xs n p r) (i + 1) blank ≡ get_or xs i blank
-      put_above i high low = getD_put (i + 1) (omega arith) ∙ get_or-insert_above (take n xs) p r blank i high (omega (arith, long)) ∙ get_or-take n xs i blank low
+      put_above i high low =
+          let long = length-take-le n xs ordered.within in
+          let read = get_or-take (n + 1) (put_in xs n p r) (i + 1) blank (omega arith) in
+          let inserted = get_or-insert_above (take n xs) p r blank i high (omega arith) in
+          rw (← read, put_in_inserted xs n p r le lt, inserted) (get_or-take n xs i blank low)
 
       moved : (i : ℕ) → i < n + 1 → (i ≡ p → ⊥) → get_or (put_in xs n p r) i blank ≡ get_or xs (cond (ltb p i) (i - 1) i) blank
       moved i low differs =
-          ⊎_elim
-          (λ above.
-          let back : i ≡ i - 1 + 1 = omega arith in
-          ap (λ m. get_or (put_in xs n p r) m blank) back ∙ put_above (i - 1) (omega arith) (omega arith)
-          ∙ ap (λ m. get_or xs m blank) (sym (cond-true (ltb p i) (i - 1) i (lt-ltb p i above))))
-          (λ below. put_below i (omega arith) ∙ ap (λ m. get_or xs m blank) (sym (cond-false (ltb p i) (i - 1) i (le-ltb p i below))))
-          (cases_lt p i)
+          let above : p < i → get_or (put_in xs n p r) (i - 1 + 1) blank ≡ get_or xs (i - 1) blank = λ high. put_above (i - 1) (omega arith) (omega arith) in
+          grind (arith, put_below)
 
       module _ (free : located digits blank xs n (digits r) ≡ Err p) where
         kept : Ordered digits blank (put_in xs n p r) (n + 1)

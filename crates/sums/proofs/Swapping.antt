@@ -1,27 +1,24 @@
 -- Two additions leave the same rows in either order. Assumes nothing.
-use Rattle.std.proofs.Common.{◌≡◌, ℕ, ◌+◌, ◌<◌, ◌≤◌, cond, ltb, List, length, get_or, take, set, Some, None, Ok, Option, sym, refl, ap, ◌∙◌, subst, ⊎_elim, arith, Err, Result}
-use Rattle.std.proofs.lemmas.List.{length-set, get_or-take, length-take-le}
-use Rattle.std.proofs.lemmas.Bool.{cond-true, ltb-true}
-use Rattle.table.specs.Changing.{holds, put_in}
-use Rattle.table.specs.Order.{Ordered, Told}
+use Rattle.std.proofs.Common.{◌≡◌, ℕ, ◌+◌, ◌<◌, ◌≤◌, List, length, get_or, set, Some, None, Ok, Option, sym, refl, ap, ◌∙◌, ⊎_elim, Err}
+use Rattle.std.proofs.lemmas.List.{length-set}
+use Rattle.table.specs.Changing.{put_in}
+use Rattle.table.specs.Order.{Ordered}
 use Rattle.table.proofs.Contents.{length_put_in}
 use Rattle.table.proofs.Keeping.{insert_keeps, replace_keeps}
-use Rattle.table.proofs.Finding.{located_tells}
-use Rattle.sums.specs.Amounts.{none, both}
-use Rattle.sums.specs.Changes.{counted, blank, place_of, adding_at, adding, changed}
+use Rattle.sums.specs.Amounts.{none}
+use Rattle.sums.specs.Changes.{counted, blank, place_of, adding, changed}
 use Rattle.sums.specs.Laws.{Commute}
 use Rattle.sums.specs.declared.changes.Change.{Change}
-use Rattle.sums.specs.declared.changes.Change.TheVariants.{Replace}
 use Rattle.sums.specs.declared.rows.Row.{Row}
 use Rattle.sums.proofs.Balance.{both_swap}
 use Rattle.sums.proofs.Reading.{alike_or_not, at_place, under, tables_alike, under_set, under_set_other, under_put, under_put_other}
-use Rattle.sums.proofs.Undoing.{row, grown_ok, made_ok, holds_true, has_room_true}
+use Rattle.sums.proofs.Adding.{row, larger, fresh, added}
 
 module _ {K : Type 0} where
   -- the row of a key once more is added to it
   abbrev merged : Option (Row K) → Row K → Row K
-  merged None more = row more.key (both none more.amounts)
-  merged (Some old) more = row old.key (both old.amounts more.amounts)
+  merged None more = fresh more
+  merged (Some old) more = larger old more
 
   merged_swap : (o : Option (Row K)) (a b : Row K) → a.key ≡ b.key → merged (Some (merged o a)) b ≡ merged (Some (merged o b)) a
   merged_swap None a b e = λ i. row (e i) (both_swap none a.amounts b.amounts i)
@@ -41,10 +38,9 @@ module _ {K : Type 0} (digits : K → List ℕ) (zero : K) where
 
   module _ (xs : List (Row K)) (n : ℕ) (more : Row K) (ordered : Ordered (λ w. digits w.key) (blank digits zero) xs n) where
     found_added : (i : ℕ) → i < n → digits (get_or xs i (blank digits zero)).key ≡ digits more.key → place_of digits zero xs n more.key ≡ Ok i →
-        Added xs n more (set xs i (merged (Some (get_or xs i (blank digits zero))) more)) n
+        Added xs n more (set xs i (larger (get_or xs i (blank digits zero)) more)) n
     found_added i lt alike at =
-        let old : Row K = get_or xs i (blank digits zero) in
-        let r : Row K = merged (Some old) more in
+        let r : Row K = larger (get_or xs i (blank digits zero)) more in
         record {
           ordered = replace_keeps (λ w. digits w.key) (blank digits zero) xs n i ordered r lt refl;
           long = length-set xs i r;
@@ -53,42 +49,17 @@ module _ {K : Type 0} (digits : K → List ℕ) (zero : K) where
           other = λ k differs. under_set_other (λ w. digits w.key) (blank digits zero) xs n i r ordered lt refl k (λ e. differs (e ∙ alike));
         }
 
-    free_added : (p : ℕ) → p ≤ n → n < length xs → place_of digits zero xs n more.key ≡ Err p → Added xs n more (put_in xs n p (merged None more)) (n + 1)
-    free_added p le lt at =
-        let r : Row K = merged None more in
-        record {
-          ordered = insert_keeps (λ w. digits w.key) (blank digits zero) xs n p ordered r lt at;
-          long = length_put_in xs n p r le lt;
-          here = under_put (λ w. digits w.key) (blank digits zero) xs n p r ordered lt le at
-              ∙ ap (λ place. Some (merged (at_place (λ w. digits w.key) (blank digits zero) xs place) more)) (sym at);
-          other = λ k differs. under_put_other (λ w. digits w.key) (blank digits zero) xs n p r ordered lt le at k differs;
-        }
+    free_added : (p : ℕ) → p ≤ n → n < length xs → place_of digits zero xs n more.key ≡ Err p → Added xs n more (put_in xs n p (fresh more)) (n + 1)
+    free_added p le lt at = record {
+      ordered = insert_keeps (λ w. digits w.key) (blank digits zero) xs n p ordered (fresh more) lt at;
+      long = length_put_in xs n p (fresh more) le lt;
+      here = under_put (λ w. digits w.key) (blank digits zero) xs n p (fresh more) ordered lt le at
+          ∙ ap (λ place. Some (merged (at_place (λ w. digits w.key) (blank digits zero) xs place) more)) (sym at);
+      other = λ k differs. under_put_other (λ w. digits w.key) (blank digits zero) xs n p (fresh more) ordered lt le at k differs;
+    }
 
-    added_at : (table : ℕ) (c : Change K) (place : Result ℕ ℕ) → place_of digits zero xs n more.key ≡ place →
-        Told (λ w. digits w.key) (blank digits zero) (take n xs) (digits more.key) place →
-        adding_at digits zero table xs n more place ≡ Ok c → Added xs n more (changed digits zero c xs n) (counted c xs n)
-    added_at table c (Ok i) at told e =
-        let long = length-take-le n xs ordered.within in
-        let lt : i < n = omega (arith, told.0) in
-        let alike : digits (get_or xs i (blank digits zero)).key ≡ digits more.key = ap (λ w. digits w.key) (sym (get_or-take n xs i (blank digits zero) lt)) ∙ told.1 in
-        let old : Row K = get_or xs i (blank digits zero) in
-        let r : Row K = merged (Some old) more in
-        let is : c ≡ Replace i r = grown_ok i old.key old.amounts more.amounts c e in
-        subst (λ d. Added xs n more (changed digits zero d xs n) (counted d xs n)) (sym is)
-        (subst (λ ys. Added xs n more ys n) (sym (cond-true (holds xs n i) (set xs i r) xs (holds_true xs n i lt ordered.within))) (found_added i lt alike at))
-    added_at table c (Err p) at told e =
-        let long = length-take-le n xs ordered.within in
-        let le : p ≤ n = omega (arith, told.within) in
-        let r : Row K = merged None more in
-        let is = made_ok (ltb n (length xs)) table p more.key none more.amounts c e in
-        let lt : n < length xs = ltb-true n (length xs) is.0 in
-        subst (λ d. Added xs n more (changed digits zero d xs n) (counted d xs n)) (sym is.1)
-        (subst (λ b. Added xs n more (cond b (put_in xs n p r) xs) (cond b (n + 1) n)) (sym (has_room_true xs n p le lt)) (free_added p le lt at))
-
-    added : (table : ℕ) (c : Change K) → adding digits zero table xs n more ≡ Ok c → Added xs n more (changed digits zero c xs n) (counted c xs n)
-    added table c e =
-        added_at table c (place_of digits zero xs n more.key) refl
-        (located_tells (λ w. digits w.key) (blank digits zero) xs n (digits more.key) ordered.rising) e
+    adds : (table : ℕ) (c : Change K) → adding digits zero table xs n more ≡ Ok c → Added xs n more (changed digits zero c xs n) (counted c xs n)
+    adds table c e = added digits zero xs n more ordered (Added xs n more) found_added free_added table c e
 
   module _ (xs : List (Row K)) (n : ℕ) (a b : Row K) (ys us : List (Row K)) (m l : ℕ) (first : Added xs n a ys m) (second : Added ys m b us l) where
     -- what a table has after two additions, at the key of neither, of one, and of both
@@ -128,6 +99,6 @@ module _ {K : Type 0} (digits : K → List ℕ) (zero : K) where
 
   pub commute : (table : ℕ) (xs : List (Row K)) (n : ℕ) (a b : Row K) → Commute digits zero table xs n a b
   commute table xs n a b ordered one c d e f ac bd be af =
-      let ab = added xs n a ordered table c ac in
-      let ba = added xs n b ordered table e be in
-      swapped xs n a b one _ _ _ _ _ _ _ _ ab (added _ _ b ab.ordered table d bd) ba (added _ _ a ba.ordered table f af)
+      let ab = adds xs n a ordered table c ac in
+      let ba = adds xs n b ordered table e be in
+      swapped xs n a b one _ _ _ _ _ _ _ _ ab (adds _ _ b ab.ordered table d bd) ba (adds _ _ a ba.ordered table f af)
