@@ -2,7 +2,6 @@ pub mod BookLaws
 pub mod Custom
 pub mod CustomLaws
 pub mod Customised
-pub mod Fitting
 pub mod Laws
 pub mod Listed
 pub mod Prefix

@@ -1,5 +1,5 @@
 // An aerodrome of the operator's own list and its State.
-ghost use Rattle.std.specs.Prelude.{◌≡◌};
+ghost use Rattle.std.specs.Prelude.{◌≡◌, [], ◌∷◌};
 ghost use Rattle.units.specs.declared.refusals.ListOwner.TheVariants.{OfDirectory};
 ghost use Rattle.aerodromes.specs.Custom.{custom_name, custom_formed, custom_fits};
 
@@ -14,6 +14,17 @@ pub struct CustomAerodrome {
     pub state: u16,
 }
 
+impl Default for CustomAerodrome {
+    ghost is_default = { λ a. (a.code.bytes ≡ 0 ∷ 0 ∷ 0 ∷ 0 ∷ []) × (a.state ≡ 0) };
+
+    fn default() -> CustomAerodrome {
+        CustomAerodrome {
+            code: AerodromeCode { bytes: [0; 4] },
+            state: 0,
+        }
+    }
+}
+
 impl Item for CustomAerodrome {
     ghost naming = { custom_name };
 
@@ -21,29 +32,19 @@ impl Item for CustomAerodrome {
 
     ghost fitting = { custom_fits };
 
-    ghost owner = { OfDirectory };
+    ghost OWNER = { OfDirectory };
 
-    fn name(&self) -> [u8; 4]
-        ensures { result ≡ custom_name self.now }
-    {
+    const OWNER: ListOwner = ListOwner::OfDirectory;
+
+    fn name(&self) -> [u8; 4] {
         self.code.bytes
     }
 
-    fn is_formed(&self) -> bool
-        ensures { result ≡ custom_formed self.now }
-    {
+    fn is_formed(&self) -> bool {
         is_aerodrome_code(&self.code.bytes)
     }
 
-    fn is_fitting(&self) -> bool
-        ensures { result ≡ custom_fits self.now }
-    {
+    fn is_fitting(&self) -> bool {
         is_state(self.state)
-    }
-
-    fn list_owner() -> ListOwner
-        ensures { result ≡ OfDirectory }
-    {
-        ListOwner::OfDirectory
     }
 }

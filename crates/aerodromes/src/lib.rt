@@ -3,10 +3,7 @@
 
 pub mod custom;
 pub mod custom_list;
-pub mod customs;
 pub mod directory;
-mod fitted;
 pub mod listed;
 pub mod prefix;
 pub mod prefix_list;
-pub mod prefixes;

@@ -8,7 +8,7 @@ use units::codes::{is_character, is_state};
 use units::refusals::ListOwner;
 
 // The first two bytes of a code, well formed or not, and a State, in range or not.
-#[derive(Clone, Copy)]
+#[derive(Clone, Copy, Debug, Default, PartialEq, Eq)]
 pub struct Prefix {
     pub first: u8,
     pub second: u8,
@@ -22,29 +22,19 @@ impl Item for Prefix {
 
     ghost fitting = { prefix_fits };
 
-    ghost owner = { OfDirectory };
+    ghost OWNER = { OfDirectory };
 
-    fn name(&self) -> [u8; 4]
-        ensures { result ≡ prefix_name self.now }
-    {
+    const OWNER: ListOwner = ListOwner::OfDirectory;
+
+    fn name(&self) -> [u8; 4] {
         [self.first, self.second, 0, 0]
     }
 
-    fn is_formed(&self) -> bool
-        ensures { result ≡ prefix_formed self.now }
-    {
+    fn is_formed(&self) -> bool {
         is_character(self.first) && is_character(self.second)
     }
 
-    fn is_fitting(&self) -> bool
-        ensures { result ≡ prefix_fits self.now }
-    {
+    fn is_fitting(&self) -> bool {
         is_state(self.state)
-    }
-
-    fn list_owner() -> ListOwner
-        ensures { result ≡ OfDirectory }
-    {
-        ListOwner::OfDirectory
     }
 }

@@ -1,15 +1,14 @@
 -- A short list: looking an item up by its name, and adding one. Assumes nothing.
-use Rattle.std.specs.Prelude.{ℕ, Bool, cond, List, [], ◌∷◌, ◌++◌, is_ok, Some, None, Ok, Err, Option, Result}
-use Rattle.units.specs.Order.{same}
+use Rattle.std.specs.Prelude.{ℕ, Bool, cond, List, [], ◌∷◌, ◌++◌, is_ok, Ok, Err, Option, Result}
+use Rattle.std.specs.List.{find}
+use Rattle.std.specs.Str.{bytes_eq}
 use Rattle.units.specs.declared.refusals.ListOwner.{ListOwner}
 use Rattle.units.specs.declared.refusals.Refusal.{Refusal}
 use Rattle.units.specs.declared.refusals.Refusal.TheVariants.{ListFull, ListCode, ListRepeated, ListValue}
 
-module _ {A : Type 0} (naming : A → List ℕ) where
-  -- the first item of that name
-  unfoldable pub listed : List ℕ → List A → Option A
-  listed name [] = None
-  listed name (x ∷ xs) = cond (same (naming x) name) (Some x) (listed name xs)
+-- the first item of that name
+abbrev pub listed : {A : Type 0} → (A → List ℕ) → List ℕ → List A → Option A
+listed naming name = find (λ x. bytes_eq (naming x) name)
 
 -- the checks of an addition, in their order
 abbrev pub added : ListOwner → Bool → Bool → Bool → Bool → Result (Unit {0}) Refusal

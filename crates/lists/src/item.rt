@@ -5,6 +5,11 @@ ghost use Rattle.units.specs.declared.refusals.ListOwner.{ListOwner};
 use units::refusals::ListOwner;
 
 pub trait Item: Copy {
+    // Whose list it stands in.
+    ghost OWNER: { ListOwner };
+
+    const OWNER: ListOwner;
+
     // The four bytes by which an item is found.
     ghost naming: { Self → List ℕ };
 
@@ -14,9 +19,6 @@ pub trait Item: Copy {
     // Whether its other values are in range.
     ghost fitting: { Self → Bool };
 
-    // Whose list it stands in.
-    ghost owner: { ListOwner };
-
     fn name(&self) -> [u8; 4]
         ensures { result ≡ naming self.now };
 
@@ -25,7 +27,4 @@ pub trait Item: Copy {
 
     fn is_fitting(&self) -> bool
         ensures { result ≡ fitting self.now };
-
-    fn list_owner() -> ListOwner
-        ensures { result ≡ owner };
 }
