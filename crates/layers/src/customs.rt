@@ -30,7 +30,9 @@ impl Item for CustomType {
 
     ghost fitting = { custom_fits };
 
-    ghost owner = { OfEstimator };
+    ghost OWNER = { OfEstimator };
+
+    const OWNER: ListOwner = ListOwner::OfEstimator;
 
     fn name(&self) -> [u8; 4] {
         self.designator.bytes
@@ -42,10 +44,6 @@ impl Item for CustomType {
 
     fn is_fitting(&self) -> bool {
         Category::try_from(self.category).is_ok_and(|category| category.has_mass(self.mass))
-    }
-
-    fn list_owner() -> ListOwner {
-        ListOwner::OfEstimator
     }
 }
 

@@ -33,7 +33,9 @@ impl Item for Equivalent {
 
     ghost fitting = { equivalent_fits };
 
-    ghost owner = { OfEstimator };
+    ghost OWNER = { OfEstimator };
+
+    const OWNER: ListOwner = ListOwner::OfEstimator;
 
     fn name(&self) -> [u8; 4] {
         self.designator.bytes
@@ -45,10 +47,6 @@ impl Item for Equivalent {
 
     fn is_fitting(&self) -> bool {
         is_ratio_part(self.p) && is_ratio_part(self.q)
-    }
-
-    fn list_owner() -> ListOwner {
-        ListOwner::OfEstimator
     }
 }
 

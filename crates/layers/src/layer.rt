@@ -11,7 +11,7 @@ use units::amounts::FUEL_LIMIT;
 use units::refusals::Refusal;
 
 #[derive(Drop)]
-pub struct Layer<E, T> {
+pub struct Layer<E, T: Item> {
     pub(crate) below: E,
     pub(crate) list: ShortList<T, 64>,
 }
@@ -24,7 +24,7 @@ impl<E, T: Item + Default> Layer<E, T> {
     {
         Layer {
             below,
-            list: ShortList::new(T::default()),
+            list: ShortList::new(),
         }
     }
 }
@@ -32,7 +32,7 @@ impl<E, T: Item + Default> Layer<E, T> {
 impl<E, T: Item> Layer<E, T> {
     // Lists a type; refused, the list stays as it is.
     pub fn add(&mut self, item: T) -> Result<(), Refusal>
-        ensures answer { result ≡ added T.owner (nat_le 64 (length (entries self.old.list))) (T.formed item) (is_some (listed T.naming (T.naming item) (entries self.old.list))) (T.fitting item) }
+        ensures answer { result ≡ added T.OWNER (nat_le 64 (length (entries self.old.list))) (T.formed item) (is_some (listed T.naming (T.naming item) (entries self.old.list))) (T.fitting item) }
         ensures after { entries self.new.list ≡ after_adding result (entries self.old.list) item }
         ensures same { self.new.below ≡ self.old.below }
     {
