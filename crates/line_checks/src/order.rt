@@ -1,8 +1,8 @@
 // The order of the example's first line.
-use lines::orders::Order;
 use units::codes::{AerodromeCode, Designator};
 use units::entries::Entry;
 use units::measures::{Kind, Measure};
+use units::refusals::{Fault, Refusal};
 
 // ADD,7,GL7T,AAAA,BBBB,D,750,10,,
 pub(crate) const FIRST: Entry = Entry {
@@ -19,13 +19,10 @@ pub(crate) const FIRST: Entry = Entry {
     exempt: false,
 };
 
-// Number and place of a refusal; 0 and 0 where there is none.
-pub(crate) fn outcome(answer: Result<(), units::refusals::Refusal>) -> (u32, usize) {
-    match answer {
-        Ok(()) => (0, 0),
-        Err(refusal) => {
-            let fault = refusal.fault();
-            (fault.number, fault.place)
-        }
-    }
+// A refusal as its number and place.
+pub(crate) fn named<T>(answer: Result<T, Refusal>) -> Result<T, (u32, usize)> {
+    answer.map_err(|refusal| {
+        let fault = Fault::from(refusal);
+        (fault.number, fault.place)
+    })
 }

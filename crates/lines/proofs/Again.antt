@@ -1,11 +1,12 @@
 -- A line that is taken is the line of its order.
-use Rattle.std.proofs.Common.{◌≡◌, ℕ, ◌≤◌, true, false, cond, eqb, List, [], ◌∷◌, length, Some, Ok, Err, Result, sym, refl, ap, ◌∙◌, inl, inr, arith}
+use Rattle.std.proofs.Common.{◌≡◌, ℕ, cond, eqb, List, [], ◌∷◌, length, Some, Ok, Err, Result, sym, refl, ap, ◌∙◌, arith}
 use Rattle.std.specs.Option.{ok_or}
-use Rattle.std.proofs.lemmas.Bool.Decides.{eqb_tells, Decides-eqb}
+use Rattle.std.proofs.lemmas.Bool.Decides.{Decides-eqb}
+use Rattle.std.proofs.lemmas.List.Splits.{join_with_byte-slice_split}
 use Rattle.units.specs.declared.entries.Entry.{Entry}
 use Rattle.units.specs.declared.refusals.Refusal.{Refusal}
 use Rattle.units.specs.declared.refusals.Refusal.TheVariants.{LineVerb, LineFields}
-use Rattle.lines.specs.Fields.{split, join, onto, part, comma}
+use Rattle.lines.specs.Fields.{split, join, part, comma}
 use Rattle.lines.specs.Laws.{SpeltAgain}
 use Rattle.lines.specs.Forms.{fields_of, verb, number}
 use Rattle.lines.specs.Reading.{entry_in, order_in, parts_read, asked}
@@ -20,38 +21,9 @@ use Rattle.lines.proofs.Spelt.{verb_spelt, number_spelt, type_spelt, code_spelt,
 cons : {A : Type 0} {x y : A} {xs ys : List A} → x ≡ y → xs ≡ ys → x ∷ xs ≡ y ∷ ys
 cons e f = cc
 
--- the parts of a line, joined, are the line
-join_onto : (b : ℕ) (parts : List (List ℕ)) → 1 ≤ length parts → join (onto b parts) ≡ b ∷ join parts
-unfolding join
-join_onto b [] h = absurd (omega arith)
-join_onto b (p ∷ []) h = refl
-join_onto b (p ∷ q ∷ parts) h = refl
-
-join_next : (parts : List (List ℕ)) → 1 ≤ length parts → join ([] ∷ parts) ≡ comma ∷ join parts
-unfolding join
-join_next [] h = absurd (omega arith)
-join_next (p ∷ parts) h = refl
-
-onto_some : (b : ℕ) (parts : List (List ℕ)) → 1 ≤ length parts → 1 ≤ length (onto b parts)
-onto_some b [] h = h
-onto_some b (p ∷ parts) h = omega arith
-
-split_some : (line : List ℕ) → 1 ≤ length (split line)
-unfolding split
-split_some [] = omega arith
-split_some (b ∷ line) =
-    elim (eqb b comma) as (λ t. 1 ≤ length (cond t ([] ∷ split line) (onto b (split line)))) [
-      | true ↦ omega arith
-      | false ↦ onto_some b (split line) (split_some line)
-    ]
-
 pub join_split : (line : List ℕ) → join (split line) ≡ line
 unfolding split join
-join_split [] = refl
-join_split (b ∷ line) = elim (eqb_tells b comma) [
-  | inl p ↦ (ap (λ t. join (cond t ([] ∷ split line) (onto b (split line)))) p.0 ∙ join_next (split line) (split_some line) ∙ ap (λ rest. comma ∷ rest) (join_split line) ∙ ap (λ x. x ∷ line) (sym p.1))
-  | inr p ↦ (ap (λ t. join (cond t ([] ∷ split line) (onto b (split line)))) p.0 ∙ join_onto b (split line) (split_some line) ∙ ap (λ rest. b ∷ rest) (join_split line))
-]
+join_split line = join_with_byte-slice_split comma line
 
 ok_same : {A : Type 0} (x y : A) → ◌≡◌ {A = Result A Refusal} (Ok x) (Ok y) → x ≡ y
 ok_same x y e = cc

@@ -15,7 +15,3 @@ asked_ok (Some y) f x e = cc
 pub cond_ok : {A : Type 0} (b : Bool) (r : Result A Refusal) (f : Refusal) (x : A) → cond b r (Err f) ≡ Ok x → (b ≡ true) × (r ≡ Ok x)
 cond_ok true r f x e = (refl, e)
 cond_ok false r f x e = let z : ◌≡◌ {A = ℕ} 0 1 = cc in absurd (omega arith)
-
-pub cond_some : {A : Type 0} (b : Bool) (y x : A) → cond b (Some y) None ≡ Some x → (b ≡ true) × (y ≡ x)
-cond_some true y x e = (refl, cc)
-cond_some false y x e = let z : ◌≡◌ {A = ℕ} 0 1 = cc in absurd (omega arith)

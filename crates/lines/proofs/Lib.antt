@@ -1,7 +1,5 @@
 pub mod Again
-pub mod Cuttings
 pub mod Inverse
+pub mod Kept
 pub mod Numbers
-pub mod Parts
 pub mod Spelt
-pub mod Words

@@ -1,14 +1,12 @@
 -- What `parse` answers at a number of a line.
-use Rattle.std.proofs.Common.{◌≡◌, ℕ, ◌^◌, ◌<◌, ◌≤◌, Bool, true, false, eqb, List, length, get_or, Some, None, Ok, Err, IsUtf8, Result, sym, ap, ◌∙◌, arith}
+use Rattle.std.proofs.Common.{◌≡◌, ℕ, ◌^◌, ◌<◌, ◌≤◌, Bool, true, false, eqb, List, length, get_or, Some, Ok, Err, Result, sym, ap, ◌∙◌, arith}
 use Rattle.std.specs.Result.{OkIff, result_ok}
 use Rattle.std.specs.Str.Parse.{digits_value, ParsesUnsigned}
 use Rattle.std.specs.Str.{all_ascii_digits}
 use Rattle.std.proofs.lemmas.Str.Parse.{IsNumeralModel, numerals_by_value, tells_all_ascii_digits, parse_plain, digits_value_short, digit_at}
+use Rattle.std.proofs.lemmas.Bool.{cond-true, cond-false, false_from_ne_true}
 use Rattle.std.proofs.lemmas.Bool.Decides.{nat_tests}
-use Rattle.std.proofs.lemmas.Fmt.{IsAscii-from_digits}
-use Rattle.std.proofs.lemmas.Str.{IsUtf8-from_ascii}
 use Rattle.lines.specs.Forms.{number, numeral, plain}
-use Rattle.lines.proofs.Words.{cond-true, cond-false, false_from}
 
 pub own : IsNumeralModel (λ ds. all_ascii_digits ds ≡ true) (digits_value 10)
 own = numerals_by_value (λ ds. all_ascii_digits ds ≡ true) tells_all_ascii_digits
@@ -24,19 +22,12 @@ digits_of bytes h = grind (arith, nat_tests)
 signless : (bytes : List ℕ) → all_ascii_digits bytes ≡ true → 1 ≤ length bytes → get_or bytes 0 0 ≡ 43 → ⊥
 signless bytes h l e = let d = digit_at bytes 0 (own.to bytes h) l in omega arith
 
-pub number_else : (bytes : List ℕ) → plain bytes ≡ false → number bytes ≡ None
-number_else bytes h = cond-false _ _ _ (false_from _ (λ e.
-    let l : 1 ≤ length bytes = grind (arith, nat_tests) in
-    let s : get_or bytes 0 0 ≡ 43 → ⊥ = signless bytes (digits_of bytes e) l in
-    let t : plain bytes ≡ true = grind (arith, nat_tests) in
-    let z : ◌≡◌ {A = ℕ} 0 1 = cc in omega arith))
-
 numeral_from : (bytes : List ℕ) → plain bytes ≡ true → all_ascii_digits bytes ≡ true → numeral bytes ≡ true
 numeral_from bytes p d = grind (arith, nat_tests)
 
 parsed : {X : Type 0} (bytes : List ℕ) → plain bytes ≡ true → (r : Result ℕ X) → OkIff r ((all_ascii_digits bytes ≡ true) × (0 < length bytes) × (digits_value 10 bytes < 2 ^ 32)) (digits_value 10 bytes) → result_ok r ≡ number bytes
 parsed bytes p (Ok x) k = ap Some k.1 ∙ sym (cond-true _ _ _ (numeral_from bytes p k.0.0))
-parsed bytes p (Err e) k = sym (cond-false _ _ _ (false_from _ (λ n.
+parsed bytes p (Err e) k = sym (cond-false _ _ _ (false_from_ne_true _ (λ n.
     let l : (1 ≤ length bytes) × (length bytes ≤ 9) = (grind (arith, nat_tests), grind (arith, nat_tests)) in
     let v = nine_digits bytes (digits_of bytes n) l.1 in
     k (digits_of bytes n, l.0, omega arith))))
@@ -45,7 +36,3 @@ pub number_parsed : {X : Type 0} (bytes : List ℕ) (r : Result ℕ X) → plain
 number_parsed bytes r p h =
     let s : get_or bytes 0 0 ≡ 43 → ⊥ = λ e. (let z : eqb (get_or bytes 0 0) 43 ≡ true = grind (arith, nat_tests) in let y : ◌≡◌ {A = Bool} true false = grind (arith, nat_tests) in let x : ◌≡◌ {A = ℕ} 0 1 = cc in omega arith) in
     parsed bytes p r (parse_plain own 32 bytes r h s)
-
--- what is no text is no number
-pub number_other : (bytes : List ℕ) → (IsUtf8 bytes → ⊥) → number bytes ≡ None
-number_other bytes h = cond-false _ _ _ (false_from _ (λ n. h (IsUtf8-from_ascii bytes (IsAscii-from_digits bytes (own.to bytes (digits_of bytes n))))))

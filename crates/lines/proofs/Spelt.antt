@@ -2,7 +2,9 @@
 use Rattle.std.proofs.Common.{◌≡◌, ℕ, ◌≤◌, Bool, true, false, cond, ◌&&◌, eqb, leb, ◌⊎◌, List, [], ◌∷◌, length, get_or, Some, None, decimal, Option, sym, refl, ap, ◌∙◌, inl, inr, arith}
 use Rattle.std.specs.Str.Parse.{digits_value}
 use Rattle.std.specs.Str.{all_ascii_digits, bytes_eq}
+use Rattle.std.proofs.lemmas.Bool.{cond-true, cond-false}
 use Rattle.std.proofs.lemmas.Fmt.{decimal-digits_value}
+use Rattle.std.proofs.lemmas.Option.{cond_some}
 use Rattle.std.proofs.lemmas.Bool.Decides.{nat_tests, eqb_tells}
 use Rattle.std.proofs.lemmas.Slice.Eq.{bytes_eq-Decides}
 use Rattle.units.specs.declared.codes.AerodromeCode.{AerodromeCode}
@@ -10,12 +12,11 @@ use Rattle.units.specs.declared.codes.Designator.{Designator}
 use Rattle.units.specs.declared.measures.Kind.{Kind}
 use Rattle.units.specs.declared.measures.Kind.TheVariants.{Distance, Time}
 use Rattle.units.specs.Alphabet.{space}
-use Rattle.lines.specs.Forms.{verb, verb_word, number, numeral, characters, type_of, type_word, filled, code_of, kind_of, kind_letter, reported_of, reported_word, some_of, exempt_of, exempt_word, marked, lettered}
+use Rattle.units.specs.Measuring.{kind_letter, of_letter}
+use Rattle.lines.specs.Forms.{verb, verb_word, number, numeral, characters, type_of, type_word, filled, code_of, kind_of, reported_of, reported_word, some_of, exempt_of, exempt_word, marked}
 use Rattle.lines.specs.declared.orders.Verb.{Verb}
 use Rattle.lines.specs.declared.orders.Verb.TheVariants.{Add, Amend, Delete}
-use Rattle.lines.proofs.Inverse.{cond_some}
 use Rattle.lines.proofs.Numbers.{own, nine_digits}
-use Rattle.lines.proofs.Words.{cond-true, cond-false}
 
 numeral_digits : (bytes : List ℕ) → numeral bytes ≡ true → (all_ascii_digits bytes ≡ true) × (1 ≤ length bytes) × (length bytes ≤ 9) × (get_or bytes 0 0 ≡ 48 → length bytes ≡ 1)
 numeral_digits bytes h = (grind (arith, nat_tests), grind (arith, nat_tests), grind (arith, nat_tests), λ e. grind (arith, nat_tests))
@@ -48,7 +49,7 @@ code_spelt bytes code e =
     let c = cond_some _ _ code e in
     ap (λ (k : AerodromeCode). k.bytes) (sym c.1)
 
-lettered_spelt : (c : ℕ) (k : Kind) → lettered c ≡ Some k → kind_letter k ≡ c
+lettered_spelt : (c : ℕ) (k : Kind) → of_letter c ≡ Some k → kind_letter k ≡ c
 lettered_spelt c k e = elim (eqb_tells c (kind_letter Distance)) [
   | inl p ↦ (let f : Some Distance ≡ Some k = sym (cond-true _ _ _ p.0) ∙ e in
       let g : Distance ≡ k = cc in ap kind_letter (sym g) ∙ sym p.1)

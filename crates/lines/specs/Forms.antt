@@ -1,12 +1,13 @@
 -- What a field spells, by its form alone, and how its value is spelt. Assumes nothing.
-use Rattle.std.specs.Prelude.{ℕ, Bool, true, false, cond, not, ◌&&◌, ◌||◌, List, [], ◌∷◌, ◌++◌, length, take, drop, Some, None, codes, decimal, Option, ◌==◌, nat_le, slice_index}
+use Rattle.std.specs.Prelude.{ℕ, Bool, true, false, cond, not, ◌&&◌, ◌||◌, List, [], ◌++◌, length, take, drop, Some, None, codes, decimal, Option, ◌==◌, nat_le, slice_index}
+use Rattle.std.specs.List.{list_all}
 use Rattle.std.specs.Str.Parse.{digits_value}
 use Rattle.std.specs.Str.{all_ascii_digits, bytes_eq}
 use Rattle.units.specs.Alphabet.{character, space, aerodrome_code}
 use Rattle.units.specs.declared.codes.AerodromeCode.{AerodromeCode}
 use Rattle.units.specs.declared.codes.Designator.{Designator}
 use Rattle.units.specs.declared.measures.Kind.{Kind}
-use Rattle.units.specs.declared.measures.Kind.TheVariants.{Distance, Time}
+use Rattle.units.specs.Measuring.{of_letter}
 use Rattle.lines.specs.declared.orders.Verb.{Verb}
 use Rattle.lines.specs.declared.orders.Verb.TheVariants.{Add, Amend, Delete}
 
@@ -40,8 +41,7 @@ abbrev pub number : List ℕ → Option ℕ
 number bytes = cond (numeral bytes) (Some (digits_value 10 bytes)) None
 
 abbrev pub characters : List ℕ → Bool
-characters [] = true
-characters (b ∷ bytes) = character b && characters bytes
+characters bytes = list_all character bytes
 
 -- filled up with spaces to four bytes
 abbrev pub filled : List ℕ → List ℕ
@@ -58,16 +58,8 @@ type_word d = cond (space (slice_index d.bytes 2)) (take 2 d.bytes) (cond (space
 abbrev pub code_of : List ℕ → Option AerodromeCode
 code_of bytes = cond (aerodrome_code bytes) (Some (record { bytes = bytes })) None
 
--- D for a distance, T for a block time
-abbrev pub kind_letter : Kind → ℕ
-kind_letter Distance = 68
-kind_letter Time = 84
-
-abbrev pub lettered : ℕ → Option Kind
-lettered letter = cond (letter == kind_letter Distance) (Some Distance) (cond (letter == kind_letter Time) (Some Time) None)
-
 abbrev pub kind_of : List ℕ → Option Kind
-kind_of bytes = cond (length bytes == 1) (lettered (slice_index bytes 0)) None
+kind_of bytes = cond (length bytes == 1) (of_letter (slice_index bytes 0)) None
 
 -- a reported fuel, or nothing where the field is empty
 abbrev pub some_of : Option ℕ → Option (Option ℕ)

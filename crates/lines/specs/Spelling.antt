@@ -1,12 +1,14 @@
 -- The line of an order. Assumes nothing.
 use Rattle.std.specs.Prelude.{ℕ, List, [], ◌∷◌, decimal, Result}
 use Rattle.units.specs.Entries.{entry_checked, reference_checked}
+use Rattle.units.specs.Measuring.{kind_letter}
 use Rattle.units.specs.declared.entries.Entry.{Entry}
 use Rattle.units.specs.declared.refusals.Refusal.{Refusal}
 use Rattle.lines.specs.Fields.{join}
-use Rattle.lines.specs.Forms.{verb_word, type_word, kind_letter, reported_word, exempt_word}
+use Rattle.lines.specs.Forms.{verb_word, type_word, reported_word, exempt_word}
 use Rattle.lines.specs.declared.orders.Order.{Order}
 use Rattle.lines.specs.declared.orders.Order.TheVariants.{Add, Amend, Delete}
+use Rattle.lines.specs.declared.orders.Verb.{Verb}
 use Rattle.lines.specs.declared.orders.Verb.TheVariants as verbs
 
 -- the fields of an entry, from the reference on
@@ -23,10 +25,19 @@ entry_words e =
     exempt_word e.exempt ∷
     []
 
+abbrev pub verb_of : Order → Verb
+verb_of (Add entry) = verbs.Add
+verb_of (Amend entry) = verbs.Amend
+verb_of (Delete reference) = verbs.Delete
+
+-- the fields of an order behind its verb
+abbrev pub asked_words : Order → List (List ℕ)
+asked_words (Add entry) = entry_words entry
+asked_words (Amend entry) = entry_words entry
+asked_words (Delete reference) = decimal reference ∷ []
+
 abbrev pub order_words : Order → List (List ℕ)
-order_words (Add entry) = verb_word verbs.Add ∷ entry_words entry
-order_words (Amend entry) = verb_word verbs.Amend ∷ entry_words entry
-order_words (Delete reference) = verb_word verbs.Delete ∷ decimal reference ∷ []
+order_words order = verb_word (verb_of order) ∷ asked_words order
 
 unfoldable pub line_of : Order → List ℕ
 line_of order = join (order_words order)

@@ -1,21 +1,46 @@
 // What a field spells, by its form alone.
-ghost use Rattle.std.specs.Prelude.{◌≡◌, ◌≤◌, length};
-ghost use Rattle.lines.specs.Forms.{verb as verb_of, number as number_of_lem, plain, characters, filled as filled_up, type_of, code_of, lettered, kind_of, reported_of, marked, exempt_of};
-ghost use Rattle.lines.specs.Tokens.{Sound, token_bytes};
+ghost use Rattle.std.specs.Prelude.{◌≡◌, ◌≤◌, ℕ, List, length, Option};
+ghost use Rattle.lines.specs.Forms.{verb as verb_of, number as number_of_lem, plain, characters, filled as filled_up, type_of, code_of, kind_of, reported_of, marked, exempt_of};
+ghost use Rattle.lines.specs.TextAlone.{TextAlone, verb_text, number_text, type_text, code_text, kind_text, reported_text, exempt_text};
 
 use crate::orders::Verb;
-use crate::tokens::Token;
+use std::str::from_utf8;
 use units::codes::{AerodromeCode, Designator, is_aerodrome_code, is_character};
 use units::measures::Kind;
 
-fn named(word: &str) -> Option<Verb>
-    ensures { result ≡ verb_of word.now }
+// A type whose values the fields of a line spell.
+pub trait Spelled: Sized {
+    ghost spelt: { List ℕ → Option Self };
+
+    fn read(text: &str) -> Option<Self>
+        ensures { result ≡ spelt text.now };
+
+    // What is no text spells nothing.
+    ghost text_alone: { TextAlone spelt };
+}
+
+// What a field spells that may be any bytes.
+pub fn read<T: Spelled>(field: &[u8]) -> Option<T>
+    ensures { result ≡ T.spelt field.now }
 {
-    match word {
-        "ADD" => Some(Verb::Add),
-        "AMD" => Some(Verb::Amend),
-        "DEL" => Some(Verb::Delete),
-        _ => None,
+    match from_utf8(field) {
+        Ok(text) => T::read(text),
+        Err(_) => None,
+    }
+}
+
+impl Spelled for Verb {
+    ghost spelt = { verb_of };
+
+    ghost text_alone = { verb_text };
+
+    fn read(text: &str) -> Option<Verb> {
+        match text {
+            "ADD" => Some(Verb::Add),
+            "AMD" => Some(Verb::Amend),
+            "DEL" => Some(Verb::Delete),
+            _ => None,
+        }
     }
 }
 
@@ -27,23 +52,88 @@ fn is_plain(bytes: &[u8]) -> bool
     1 <= n && n <= 9 && (n <= 1 || bytes[0] != b'0') && bytes[0] != b'+'
 }
 
-fn numbered(text: &str) -> Option<u32>
-    ensures { result ≡ number_of_lem text.now }
-{
-    if is_plain(text.as_bytes()) {
-        text.parse::<u32>().ok()
-    } else {
-        None
+impl Spelled for u32 {
+    ghost spelt = { number_of_lem };
+
+    ghost text_alone = { number_text };
+
+    fn read(text: &str) -> Option<u32> {
+        if is_plain(text.as_bytes()) {
+            text.parse::<u32>().ok()
+        } else {
+            None
+        }
     }
 }
 
-fn lettered_kind(letter: char) -> Option<Kind>
-    ensures { result ≡ lettered letter }
+// Nothing where the field is empty.
+impl Spelled for Option<u32> {
+    ghost spelt = { reported_of };
+
+    ghost text_alone = { reported_text };
+
+    fn read(text: &str) -> Option<Option<u32>> {
+        if text.is_empty() {
+            Some(None)
+        } else {
+            u32::read(text).map(Some)
+        }
+    }
+}
+
+fn are_characters(bytes: &[u8]) -> bool
+    ensures { result ≡ characters bytes.now }
 {
-    match letter {
-        'D' => Some(Kind::Distance),
-        'T' => Some(Kind::Time),
-        _ => None,
+    bytes.iter().all(|b| is_character(*b))
+}
+
+fn filled(bytes: &[u8]) -> [u8; 4]
+    requires { length bytes.now ≤ 4 }
+    ensures { result ≡ filled_up bytes.now }
+{
+    let mut four = [b' '; 4];
+    four[..bytes.len()].copy_from_slice(bytes);
+    four
+}
+
+impl Spelled for Designator {
+    ghost spelt = { type_of };
+
+    ghost text_alone = { type_text };
+
+    fn read(text: &str) -> Option<Designator> {
+        let bytes = text.as_bytes();
+        if matches!(bytes.len(), 2..=4) && are_characters(bytes) {
+            Some(Designator {
+                bytes: filled(bytes),
+            })
+        } else {
+            None
+        }
+    }
+}
+
+impl Spelled for AerodromeCode {
+    ghost spelt = { code_of };
+
+    ghost text_alone = { code_text };
+
+    fn read(text: &str) -> Option<AerodromeCode> {
+        let bytes = <[u8; 4]>::try_from(text.as_bytes()).ok()?;
+        is_aerodrome_code(&bytes).then_some(AerodromeCode { bytes })
+    }
+}
+
+impl Spelled for Kind {
+    ghost spelt = { kind_of };
+
+    ghost text_alone = { kind_text };
+
+    fn read(text: &str) -> Option<Kind> {
+        match text.as_bytes() {
+            [letter] => Kind::try_from(*letter as char).ok(),
+            _ => None,
+        }
     }
 }
 
@@ -56,101 +146,17 @@ fn exempt_mark(letter: char) -> Option<bool>
     }
 }
 
-pub(crate) fn verb(token: Token<'_>) -> Option<Verb>
-    requires { Sound token }
-    ensures { result ≡ verb_of (token_bytes token.entry) }
-{
-    match token {
-        Token::Text(_, word) => named(word),
-        Token::Empty(_) => None,
-        Token::Other(_, _) => None,
-    }
-}
+// Whether the flights are exempt.
+impl Spelled for bool {
+    ghost spelt = { exempt_of };
 
-pub(crate) fn number(token: Token<'_>) -> Option<u32>
-    requires { Sound token }
-    ensures { result ≡ number_of_lem (token_bytes token.entry) }
-{
-    match token {
-        Token::Text(_, text) => numbered(text),
-        Token::Empty(_) => None,
-        Token::Other(_, _) => None,
-    }
-}
+    ghost text_alone = { exempt_text };
 
-pub(crate) fn reported(token: Token<'_>) -> Option<Option<u32>>
-    requires { Sound token }
-    ensures { result ≡ reported_of (token_bytes token.entry) }
-{
-    if let Token::Empty(_) = token {
-        return Some(None);
-    }
-    match number(token) {
-        Some(kilograms) => Some(Some(kilograms)),
-        None => None,
-    }
-}
-
-fn are_characters(bytes: &[u8]) -> bool
-    ensures { result ≡ characters bytes.now }
-{
-    for i in 0..bytes.len() {
-        if !is_character(bytes[i]) {
-            return false;
+    fn read(text: &str) -> Option<bool> {
+        match text.as_bytes() {
+            [] => Some(false),
+            [letter] => exempt_mark(*letter as char),
+            _ => None,
         }
-    }
-    true
-}
-
-fn filled(bytes: &[u8]) -> [u8; 4]
-    requires { length bytes.now ≤ 4 }
-    ensures { result ≡ filled_up bytes.now }
-{
-    let mut four = [b' '; 4];
-    four[..bytes.len()].copy_from_slice(bytes);
-    four
-}
-
-pub(crate) fn designator(bytes: &[u8]) -> Option<Designator>
-    ensures { result ≡ type_of bytes.now }
-{
-    let n = bytes.len();
-    if 2 <= n && n <= 4 && are_characters(bytes) {
-        Some(Designator {
-            bytes: filled(bytes),
-        })
-    } else {
-        None
-    }
-}
-
-pub(crate) fn code(bytes: &[u8]) -> Option<AerodromeCode>
-    ensures { result ≡ code_of bytes.now }
-{
-    if is_aerodrome_code(bytes) {
-        Some(AerodromeCode {
-            bytes: filled(bytes),
-        })
-    } else {
-        None
-    }
-}
-
-pub(crate) fn kind(bytes: &[u8]) -> Option<Kind>
-    ensures { result ≡ kind_of bytes.now }
-{
-    match bytes {
-        [letter] => lettered_kind(*letter as char),
-        _ => None,
-    }
-}
-
-pub(crate) fn exempt(bytes: &[u8]) -> Option<bool>
-    ensures { result ≡ exempt_of bytes.now }
-{
-    match bytes {
-        [] => Some(false),
-        [letter] => exempt_mark(*letter as char),
-        _ => None,
     }
 }

@@ -1,10 +1,9 @@
 // A field as a token: its number and the part of the line that it is.
 ghost use Rattle.std.specs.Prelude.{◌≡◌};
-ghost use Rattle.units.specs.declared.refusals.Refusal.TheVariants.{LineField};
-ghost use Rattle.lines.specs.Tokens.{Stands, token_number, token_bytes};
+ghost use Rattle.lines.specs.Tokens.{Sound, Stands, token_number, token_bytes};
 
+use crate::forms::Spelled;
 use std::str::from_utf8;
-use units::refusals::Refusal;
 
 #[derive(Clone, Copy)]
 pub(crate) enum Token<'a> {
@@ -26,24 +25,23 @@ impl<'a> Token<'a> {
         }
     }
 
-    pub(crate) fn bytes(self) -> &'a [u8]
-        ensures { result.now ≡ token_bytes self.entry }
+    pub(crate) fn number(self) -> usize
+        ensures { result ≡ token_number self.entry }
     {
         match self {
-            Token::Empty(_) => &[],
-            Token::Text(_, text) => text.as_bytes(),
-            Token::Other(_, part) => part,
+            Token::Empty(number) | Token::Text(number, _) | Token::Other(number, _) => number,
         }
     }
 
-    // The refusal of a field that is not of its form.
-    pub(crate) fn malformed(self) -> Refusal
-        ensures { result ≡ LineField (token_number self.entry) }
+    // The value that it spells.
+    pub(crate) fn value<T: Spelled>(self) -> Option<T>
+        requires { Sound self }
+        ensures { result ≡ T.spelt (token_bytes self.entry) }
     {
         match self {
-            Token::Empty(number) => Refusal::LineField(number),
-            Token::Text(number, _) => Refusal::LineField(number),
-            Token::Other(number, _) => Refusal::LineField(number),
+            Token::Empty(_) => T::read(""),
+            Token::Text(_, text) => T::read(text),
+            Token::Other(_, _) => None,
         }
     }
 }

@@ -1,11 +1,12 @@
 -- The line of an order that is in range reads as that order.
 use Rattle.std.proofs.Common.{◌≡◌, ℕ, ◌+◌, ◌*◌, ◌<◌, ◌≤◌, Bool, true, false, cond, ◌&&◌, ltb, leb, List, [], ◌∷◌, length, get_or, take, drop, is_ok, Some, None, Ok, decimal, Option, Result, sym, refl, ap, ◌∙◌, subst, arith, length-append, length-take}
+use Rattle.std.proofs.lemmas.Bool.{cond-false, cond-true}
 use Rattle.std.proofs.lemmas.List.{take_at}
 use Rattle.std.proofs.lemmas.Fmt.{length-decimal-le}
 use Rattle.std.proofs.lemmas.Bool.Decides.{nat_tests}
 use Rattle.units.specs.Alphabet.{designator, aerodrome_code, space}
 use Rattle.units.specs.Entries.{within, entry_checked, reference_in_range, flights_in_range, reported_in_range}
-use Rattle.units.specs.Measuring.{limit}
+use Rattle.units.specs.Measuring.{limit, kind_letter}
 use Rattle.units.specs.Steps.{then}
 use Rattle.units.specs.declared.codes.Designator.{Designator}
 use Rattle.units.specs.declared.entries.Entry.{Entry}
@@ -14,7 +15,7 @@ use Rattle.units.specs.declared.measures.Kind.TheVariants.{Distance, Time}
 use Rattle.units.specs.declared.refusals.Refusal.{Refusal}
 use Rattle.units.specs.declared.refusals.Refusal.TheVariants.{BufferShort}
 use Rattle.lines.specs.Fields.{join, comma}
-use Rattle.lines.specs.Forms.{characters, kind_letter, reported_of, reported_word, exempt_word, verb_word, type_word}
+use Rattle.lines.specs.Forms.{characters, reported_of, reported_word, exempt_word, verb_word, type_word}
 use Rattle.lines.specs.Laws.{ReadsBack, Alone}
 use Rattle.lines.specs.Reading.{asked, entry_in, parts_read, read}
 use Rattle.lines.specs.Spelling.{entry_words, order_words, line_of, order_checked}
@@ -22,10 +23,10 @@ use Rattle.lines.specs.declared.orders.Order.{Order}
 use Rattle.lines.specs.declared.orders.Order.TheVariants.{Add, Amend, Delete}
 use Rattle.lines.specs.declared.orders.Verb.TheVariants as verbs
 use Rattle.lines.proofs.Inverse.{then_ok, cond_ok}
-use Rattle.lines.proofs.Words.{cond-false, cond-true}
+use Rattle.lines.specs.TextAlone.{code_characters}
 use Rattle.writer.specs.Laws.{Unbroken, ReadBack, OneLine}
 use Rattle.writer.specs.Writing.{placed, written, buffer_after}
-use Rattle.writer.proofs.Plain.{no_feed, plain_words, split_join, decimal_characters, code_characters}
+use Rattle.writer.proofs.Plain.{no_feed, plain_words, split_join, decimal_characters}
 use Rattle.writer.proofs.Values.{number_back, type_back, type_characters, code_back, kind_back, reported_back, exempt_back}
 
 -- what the check of an entry says of each field

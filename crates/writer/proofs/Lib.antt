@@ -1,5 +1,4 @@
 pub mod Back
 pub mod Drafting
-pub mod Numbering
 pub mod Plain
 pub mod Values

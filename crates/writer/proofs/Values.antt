@@ -2,16 +2,16 @@
 use Rattle.std.proofs.Common.{◌≡◌, ℕ, ◌<◌, ◌≤◌, Bool, true, false, not, ◌&&◌, ◌||◌, eqb, leb, List, [], ◌∷◌, length, get_or, Some, decimal, sym, refl, ap, ◌∙◌, subst, inl, inr, arith, lit≤}
 use Rattle.std.specs.Str.{all_ascii_digits}
 use Rattle.std.proofs.lemmas.Fmt.{digits_decimal, decimal_nonempty, decimal_digit, first_decimal, length-decimal-le, digits_value-decimal}
-use Rattle.std.proofs.lemmas.Bool.{cases_eq}
+use Rattle.std.proofs.lemmas.Bool.{cases_eq, cond-true, cond-false}
 use Rattle.std.proofs.lemmas.Bool.Decides.{nat_tests, eqb_tells}
 use Rattle.units.specs.Alphabet.{designator, aerodrome_code}
+use Rattle.units.specs.Measuring.{kind_letter}
 use Rattle.units.specs.declared.codes.AerodromeCode.{AerodromeCode}
 use Rattle.units.specs.declared.codes.Designator.{Designator}
 use Rattle.units.specs.declared.measures.Kind.{Kind}
 use Rattle.units.specs.declared.measures.Kind.TheVariants.{Distance, Time}
-use Rattle.lines.specs.Forms.{number, numeral, characters, type_of, type_word, filled, code_of, kind_of, kind_letter, reported_of, some_of, exempt_of, exempt_word}
+use Rattle.lines.specs.Forms.{number, numeral, characters, type_of, type_word, filled, code_of, kind_of, reported_of, some_of, exempt_of, exempt_word}
 use Rattle.lines.proofs.Numbers.{own}
-use Rattle.lines.proofs.Words.{cond-true, cond-false}
 
 unpadded : (n : ℕ) → n < 1000000000 → (leb (length (decimal n)) 1 || not (eqb (get_or (decimal n) 0 0) 48)) ≡ true
 unpadded n h = elim (cases_eq n 0) [

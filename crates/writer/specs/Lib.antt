@@ -1,4 +1,3 @@
 pub mod Drafts
 pub mod Laws
-pub mod Numerals
 pub mod Writing

@@ -1,41 +1,52 @@
 // A line in the making: its length is known before a byte of the caller's buffer is written.
-ghost use Rattle.std.specs.Prelude.{◌≡◌, ◌+◌, ◌≤◌, ◌∷◌, length};
+ghost use Rattle.std.specs.Prelude.{◌≡◌, ◌+◌, ◌≤◌, [], ◌∷◌, ◌++◌, length};
 ghost use Rattle.lines.specs.Fields.{comma};
-ghost use Rattle.writer.specs.Drafts.{Put, blank};
 
-// The first `end` bytes are written.
-#[derive(Clone, Copy)]
+use arrayvec::ArrayVec;
+use lines::reading::LINE_LIMIT;
+use std::marker::Model;
+
+#[derive(Drop)]
 pub(crate) struct Draft {
-    pub(crate) bytes: [u8; 80],
-    pub(crate) end: usize,
+    line: ArrayVec<u8, LINE_LIMIT>,
+}
+
+impl Model for Draft {
+    ghost use Rattle.std.specs.Prelude.{ℕ, List};
+
+    ghost Value = { List ℕ };
+
+    ghost view = { λ draft. draft.line.items };
 }
 
 impl Draft {
     pub(crate) fn new() -> Draft
-        ensures { result ≡ blank }
+        ensures { result ≡ [] }
     {
         Draft {
-            bytes: [0; 80],
-            end: 0,
+            line: ArrayVec::new(),
         }
     }
 
     pub(crate) fn put(&mut self, part: &[u8])
-        requires { self.old.end + length part.now ≤ 80 }
-        ensures { Put self.old part.now self.new }
+        requires { length self.old + length part.now ≤ 80 }
+        ensures { self.new ≡ self.old ++ part.now }
     {
-        let from = self.end;
-        let to = from + part.len();
-        self.bytes[from..to].copy_from_slice(part);
-        self.end = to;
+        self.line.try_extend_from_slice(part).unwrap();
     }
 
     // A comma and a field.
     pub(crate) fn field(&mut self, part: &[u8])
-        requires { self.old.end + 1 + length part.now ≤ 80 }
-        ensures { Put self.old (comma ∷ part.now) self.new }
+        requires { length self.old + 1 + length part.now ≤ 80 }
+        ensures { self.new ≡ self.old ++ (comma ∷ part.now) }
     {
         self.put(b",");
         self.put(part);
+    }
+
+    pub(crate) fn as_slice(&self) -> &[u8]
+        ensures { result.now ≡ self.now }
+    {
+        self.line.as_slice()
     }
 }

@@ -2,6 +2,5 @@
 #![tactic(auto)]
 
 mod drafts;
-mod numerals;
 mod words;
 pub mod writing;

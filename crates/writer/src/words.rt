@@ -1,34 +1,27 @@
 // The fields of an entry, each as it is spelt on the line.
 ghost use Rattle.std.specs.Prelude.{◌≡◌, ◌+◌, ◌≤◌, [], ◌∷◌, length, decimal};
-ghost use Rattle.lines.specs.Forms.{type_word, kind_letter, reported_word, exempt_word};
-ghost use Rattle.writer.specs.Drafts.{Added};
+ghost use Rattle.units.specs.Measuring.{kind_letter};
+ghost use Rattle.lines.specs.Forms.{type_word, reported_word, exempt_word};
+ghost use Rattle.lines.specs.Spelling.{entry_words};
+ghost use Rattle.writer.specs.Drafts.{Added, behind};
 
 use crate::drafts::Draft;
-use crate::numerals::spelt;
+use itoa::Buffer;
 use units::codes::Designator;
+use units::entries::Entry;
 use units::measures::Kind;
-
-fn kind_letter(kind: Kind) -> char
-    ensures { result ≡ kind_letter kind }
-{
-    match kind {
-        Kind::Distance => 'D',
-        Kind::Time => 'T',
-    }
-}
 
 impl Draft {
     pub(crate) fn number(&mut self, value: u32)
-        requires { self.old.end + 11 ≤ 80 }
+        requires { length self.old + 11 ≤ 80 }
         ensures { Added self.old (decimal value) self.new 10 }
     {
-        let numeral = spelt(value);
-        let from = numeral.from;
-        self.field(&numeral.bytes[from..]);
+        let mut digits = Buffer::new();
+        self.field(digits.format(value).as_bytes());
     }
 
-    pub(crate) fn designator(&mut self, designator: Designator)
-        requires { self.old.end + 5 ≤ 80 }
+    fn designator(&mut self, designator: Designator)
+        requires { length self.old + 5 ≤ 80 }
         ensures { Added self.old (type_word designator) self.new 4 }
     {
         let bytes = designator.bytes;
@@ -41,17 +34,16 @@ impl Draft {
         }
     }
 
-    pub(crate) fn kind(&mut self, kind: Kind)
-        requires { self.old.end + 2 ≤ 80 }
+    fn kind(&mut self, kind: Kind)
+        requires { length self.old + 2 ≤ 80 }
         ensures { Added self.old (kind_letter kind ∷ []) self.new 1 }
     {
-        let letter = [kind_letter(kind) as u8];
-        self.field(&letter);
+        self.field(&[char::from(kind) as u8]);
     }
 
     // Nothing where no fuel was reported.
-    pub(crate) fn reported(&mut self, reported: Option<u32>)
-        requires { self.old.end + 11 ≤ 80 }
+    fn reported(&mut self, reported: Option<u32>)
+        requires { length self.old + 11 ≤ 80 }
         ensures { Added self.old (reported_word reported) self.new 10 }
     {
         match reported {
@@ -60,14 +52,25 @@ impl Draft {
         }
     }
 
-    pub(crate) fn exempt(&mut self, exempt: bool)
-        requires { self.old.end + 2 ≤ 80 }
+    fn exempt(&mut self, exempt: bool)
+        requires { length self.old + 2 ≤ 80 }
         ensures { Added self.old (exempt_word exempt) self.new 1 }
     {
-        if exempt {
-            self.field(b"X");
-        } else {
-            self.field(b"");
-        }
+        self.field(if exempt { b"X" } else { b"" });
+    }
+
+    pub(crate) fn entry(&mut self, entry: Entry)
+        requires { length self.old ≤ 3 }
+        ensures { self.new ≡ behind self.old (entry_words entry) }
+    {
+        self.number(entry.reference);
+        self.designator(entry.designator);
+        self.field(&entry.departure.bytes);
+        self.field(&entry.arrival.bytes);
+        self.kind(entry.measure.kind);
+        self.number(entry.measure.amount);
+        self.number(entry.flights);
+        self.reported(entry.reported);
+        self.exempt(entry.exempt);
     }
 }
