@@ -1,5 +1,6 @@
 -- Numbers and items in a run of bytes. Assumes nothing.
 use Rattle.std.specs.Prelude.{◌≡◌, ℕ, ◌+◌, ◌*◌, ◌/◌, ◌<◌, true, List, length, take, drop, Option, slice_index}
+use Rattle.std.specs.Simd.{first_chunks}
 use Rattle.units.specs.Order.{earlier, same}
 use Rattle.units.specs.Places.{first}
 
@@ -13,6 +14,10 @@ u32_at bs p = u16_at bs p + 65536 * u16_at bs (p + 2)
 -- how many items of w bytes there are
 abbrev pub items : ℕ → List ℕ → ℕ
 items w bs = length bs / w
+
+-- the items of w bytes, one by one
+abbrev pub items_of : ℕ → List ℕ → List (List ℕ)
+items_of w bs = first_chunks w (items w bs) bs
 
 -- the first k bytes of item i, where an item has w bytes
 abbrev pub front : ℕ → ℕ → List ℕ → ℕ → List ℕ

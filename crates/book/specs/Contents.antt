@@ -1,5 +1,6 @@
 -- What a checked book gives its readers. Assumes nothing.
-use Rattle.std.specs.Prelude.{ℕ, ◌-◌, Bool, cond, ◌&&◌, List, [], ◌∷◌, ◌++◌, length, Some, None, Option, ◌==◌, nat_le, nat_lt, slice_index}
+use Rattle.std.specs.Prelude.{ℕ, Bool, cond, ◌&&◌, List, [], ◌∷◌, ◌++◌, Some, None, Option, nat_lt, slice_index}
+use Rattle.units.specs.Marks.{takes_part as marked}
 use Rattle.units.specs.Measuring.{kind_number, kind_of}
 use Rattle.units.specs.declared.codes.AerodromeCode.{AerodromeCode}
 use Rattle.units.specs.declared.codes.Designator.{Designator}
@@ -67,4 +68,4 @@ aerodrome_place s c = find 8 (four c.bytes) s.aerodromes
 
 -- a State takes part when its mark is 1; States past the marks take no part
 abbrev pub takes_part : Sections → ℕ → Bool
-takes_part s n = nat_le 1 n && nat_le n (length s.marks) && slice_index s.marks (n - 1) == 1
+takes_part s n = marked s.marks n

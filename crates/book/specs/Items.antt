@@ -1,11 +1,13 @@
 -- The items of each section, and which of them are wrong. Assumes nothing.
-use Rattle.std.specs.Prelude.{ℕ, ◌+◌, ◌-◌, ◌*◌, Bool, cond, not, ◌&&◌, ◌||◌, List, take, is_some, Some, None, Option, ◌==◌, nat_le, nat_lt, slice_index}
+use Rattle.std.specs.Prelude.{ℕ, ◌+◌, ◌-◌, ◌*◌, Bool, cond, not, ◌&&◌, ◌||◌, List, take, is_some, Some, None, Option, Result, ◌==◌, nat_le, nat_lt, slice_index}
+use Rattle.std.specs.Option.{ok_or}
 use Rattle.units.specs.Alphabet.{designator, aerodrome_code, state_number}
 use Rattle.units.specs.Measuring.{kind_of}
 use Rattle.units.specs.Order.{earlier}
 use Rattle.units.specs.Places.{first}
 use Rattle.units.specs.declared.measures.Kind.{Kind}
 use Rattle.units.specs.declared.measures.Kind.TheVariants.{Distance, Time}
+use Rattle.units.specs.declared.measures.UnknownNumber.{UnknownNumber}
 use Rattle.book.specs.declared.format.Tier.{Tier}
 use Rattle.book.specs.declared.format.Tier.TheVariants.{Operators, Equivalent, Formula}
 use Rattle.book.specs.Bytes.{u16_at, u32_at, items, front}
@@ -29,6 +31,10 @@ abbrev pub tier_of : ℕ → Option Tier
 tier_of n =
     cond (n == tier_number Operators) (Some Operators)
     (cond (n == tier_number Equivalent) (Some Equivalent) (cond (n == tier_number Formula) (Some Formula) None))
+
+-- the same, where a number of no tier is handed back
+abbrev pub tier_numbered : ℕ → Result Tier UnknownNumber
+tier_numbered n = ok_or (tier_of n) (record { number = n })
 
 -- an item that does not stand after the one before it, by the first k of its w bytes
 abbrev pub out_of_order : ℕ → ℕ → List ℕ → ℕ → Bool

@@ -3,71 +3,74 @@ ghost use Rattle.std.specs.Prelude.{◌≡◌, ◌+◌, ◌*◌, ◌<◌, ◌≤
 ghost use Rattle.units.specs.Places.{first};
 ghost use Rattle.book.specs.Bytes.{items};
 ghost use Rattle.book.specs.Check.{columns_checked, row_bad, rows_checked, aerodrome_bad, aerodromes_checked, marks_checked, items_checked, hold, checked};
-ghost use Rattle.book.specs.Items.{column, column_wrong, out_of_order, fuel as fuel_of, fuel_wrong, row_wrong, aerodrome_wrong, count_wrong};
+ghost use Rattle.book.specs.Items.{column, column_wrong, columns_for, fuel as fuel_of, fuel_wrong, row_wrong, aerodrome_wrong, count_wrong};
 ghost use Rattle.book.specs.Parts.{sections};
-ghost use Rattle.book.specs.Sections.{header as header_of, length_good, header_good, columns_good, offsets_good};
-ghost use Rattle.units.specs.declared.refusals.Refusal.TheVariants.{BookLength, BookHeader, BookOffsets};
+ghost use Rattle.book.specs.Sections.{header as header_of, header_good, columns_good, offsets_good};
 
-use crate::bytes::{front, is_before, u16_at, u32_at};
+use crate::bytes::{items as items_in, u16_at, u32_at};
 use crate::format::{Header, Parts, Tier, cut};
 use units::codes::{is_aerodrome_code, is_designator, is_state};
 use units::measures::Kind;
 use units::refusals::Refusal;
 
+// How many columns each kind has.
+#[derive(Clone, Copy)]
+struct Columns {
+    distances: usize,
+    times: usize,
+}
+
+impl Columns {
+    fn of(self, kind: Kind) -> usize
+        ensures { result ≡ columns_for self.distances self.times (Some kind) }
+    {
+        match kind {
+            Kind::Distance => self.distances,
+            Kind::Time => self.times,
+        }
+    }
+}
+
 // The column at `i`; 0 past the last.
+#[tactic(auto, using(crate::proofs::Fronts::number_at))]
 pub(crate) fn column_at(columns: &[u8], i: usize) -> u16
     ensures { result ≡ column columns.now i }
 {
-    if i < columns.len() / 2 {
-        u16_at(columns, 2 * i)
-    } else {
-        0
-    }
+    items_in(columns)
+        .get(i)
+        .map_or(0, |column| u16::from_le_bytes(*column))
 }
 
 fn column_is_wrong(columns: &[u8], limit: u32, i: usize) -> bool
     ensures { result ≡ column_wrong limit columns.now i }
 {
     let at = column_at(columns, i);
-    if at as u32 > limit {
-        return true;
-    }
-    if i == 0 {
-        at != 0
-    } else {
-        at <= column_at(columns, i - 1)
-    }
+    at as u32 > limit
+        || if i == 0 {
+            at != 0
+        } else {
+            at <= column_at(columns, i - 1)
+        }
 }
 
 fn check_columns(columns: &[u8], limit: u32) -> Result<(), Refusal>
     ensures { result ≡ columns_checked limit columns.now }
 {
-    for i in 0..columns.len() / 2 {
-        if column_is_wrong(columns, limit, i) {
-            return Err(Refusal::BookColumn(i));
-        }
-    }
-    Ok(())
-}
-
-// Whether item `i` does not stand after the one before it, by the first `len` of its `width` bytes.
-fn is_out_of_order(bytes: &[u8], width: usize, len: usize, i: usize) -> bool
-    requires { width * i + len ≤ length bytes.now }
-    ensures { result ≡ out_of_order width len bytes.now i }
-{
-    i > 0 && !is_before(front(bytes, width, len, i - 1), front(bytes, width, len, i))
+    (0..columns.len() / 2)
+        .find(|&i| column_is_wrong(columns, limit, i))
+        .map_or(Ok(()), |i| Err(Refusal::BookColumn(i)))
 }
 
 // Fuel `j` of a row, in kilograms.
-pub(crate) fn fuel_at(row: &[u8], j: usize) -> u32
-    requires { (length row.now ≡ 104) × (j < 24) }
+pub(crate) fn fuel_at(row: &[u8; 104], j: usize) -> u32
+    requires { j < 24 }
     ensures { result ≡ fuel_of row.now j }
 {
     u32_at(row, 8 + 4 * j)
 }
 
-fn fuel_is_wrong(row: &[u8], j: usize) -> bool
-    requires { (length row.now ≡ 104) × (j < 24) }
+fn fuel_is_wrong(row: &[u8; 104], j: usize) -> bool
+    requires { j < 24 }
     ensures { result ≡ fuel_wrong row.now j }
 {
     let fuel = fuel_at(row, j);
@@ -78,66 +81,51 @@ fn fuel_is_wrong(row: &[u8], j: usize) -> bool
     }
 }
 
-fn fuels_are_wrong(row: &[u8]) -> bool
-    requires { length row.now ≡ 104 }
+fn fuels_are_wrong(row: &[u8; 104]) -> bool
     ensures { result ≡ is_some (first (fuel_wrong row.now) 24) }
 {
-    for j in 0..24 {
-        if fuel_is_wrong(row, j) {
-            return true;
-        }
-    }
-    false
+    (0..24).any(|j| fuel_is_wrong(row, j))
 }
 
 // Whether a row has too few fuels, or more than the columns of its kind.
-fn count_is_wrong(row: &[u8], distances: usize, times: usize) -> bool
-    requires { length row.now ≡ 104 }
-    ensures { result ≡ count_wrong distances times row.now }
+fn count_is_wrong(row: &[u8; 104], columns: Columns) -> bool
+    ensures { result ≡ count_wrong columns.distances columns.times row.now }
 {
-    let columns = match Kind::of_number(row[4] as u32) {
-        Some(Kind::Distance) => distances,
-        Some(Kind::Time) => times,
-        None => 0,
-    };
-    row[6] < 2 || columns < row[6] as usize
+    let most = Kind::try_from(row[4] as u32).map_or(0, |kind| columns.of(kind));
+    row[6] < 2 || most < row[6] as usize
 }
 
-fn row_is_wrong(row: &[u8], distances: usize, times: usize) -> bool
-    requires { length row.now ≡ 104 }
-    ensures { result ≡ row_wrong distances times row.now }
+fn row_is_wrong(row: &[u8; 104], columns: Columns) -> bool
+    ensures { result ≡ row_wrong columns.distances columns.times row.now }
 {
-    !is_designator(&row[0..4])
-        || Kind::of_number(row[4] as u32).is_none()
-        || Tier::of_number(row[5]).is_none()
-        || count_is_wrong(row, distances, times)
+    !is_designator(&row[..4])
+        || Kind::try_from(row[4] as u32).is_err()
+        || Tier::try_from(row[5]).is_err()
+        || count_is_wrong(row, columns)
         || row[7] != 0
         || fuels_are_wrong(row)
 }
 
-fn row_is_bad(rows: &[u8], distances: usize, times: usize, i: usize) -> bool
+fn row_is_bad(rows: &[u8], columns: Columns, i: usize) -> bool
     requires { i < items 104 rows.now }
-    ensures { result ≡ row_bad distances times rows.now i }
+    ensures { result ≡ row_bad columns.distances columns.times rows.now i }
 {
-    row_is_wrong(front(rows, 104, 104, i), distances, times) || is_out_of_order(rows, 104, 5, i)
+    let rows = items_in(rows);
+    row_is_wrong(&rows[i], columns) || i > 0 && rows[i][..5] <= rows[i - 1][..5]
 }
 
-fn check_rows(rows: &[u8], distances: usize, times: usize) -> Result<(), Refusal>
-    ensures { result ≡ rows_checked distances times rows.now }
+fn check_rows(rows: &[u8], columns: Columns) -> Result<(), Refusal>
+    ensures { result ≡ rows_checked columns.distances columns.times rows.now }
 {
-    for i in 0..rows.len() / 104 {
-        if row_is_bad(rows, distances, times, i) {
-            return Err(Refusal::BookRow(i));
-        }
-    }
-    Ok(())
+    (0..rows.len() / 104)
+        .find(|&i| row_is_bad(rows, columns, i))
+        .map_or(Ok(()), |i| Err(Refusal::BookRow(i)))
 }
 
-fn aerodrome_is_wrong(aerodrome: &[u8]) -> bool
-    requires { length aerodrome.now ≡ 8 }
+fn aerodrome_is_wrong(aerodrome: &[u8; 8]) -> bool
     ensures { result ≡ aerodrome_wrong aerodrome.now }
 {
-    !is_aerodrome_code(&aerodrome[0..4])
+    !is_aerodrome_code(&aerodrome[..4])
         || !is_state(u16_at(aerodrome, 4))
         || u16_at(aerodrome, 6) != 0
 }
@@ -146,38 +134,39 @@ fn aerodrome_is_bad(aerodromes: &[u8], i: usize) -> bool
     requires { i < items 8 aerodromes.now }
     ensures { result ≡ aerodrome_bad aerodromes.now i }
 {
-    aerodrome_is_wrong(front(aerodromes, 8, 8, i)) || is_out_of_order(aerodromes, 8, 4, i)
+    let aerodromes = items_in(aerodromes);
+    aerodrome_is_wrong(&aerodromes[i]) || i > 0 && aerodromes[i][..4] <= aerodromes[i - 1][..4]
 }
 
 fn check_aerodromes(aerodromes: &[u8]) -> Result<(), Refusal>
     ensures { result ≡ aerodromes_checked aerodromes.now }
 {
-    for i in 0..aerodromes.len() / 8 {
-        if aerodrome_is_bad(aerodromes, i) {
-            return Err(Refusal::BookAerodrome(i));
-        }
-    }
-    Ok(())
+    (0..aerodromes.len() / 8)
+        .find(|&i| aerodrome_is_bad(aerodromes, i))
+        .map_or(Ok(()), |i| Err(Refusal::BookAerodrome(i)))
 }
 
 fn check_marks(marks: &[u8]) -> Result<(), Refusal>
     ensures { result ≡ marks_checked marks.now }
 {
-    for (i, mark) in marks.iter().enumerate() {
-        if *mark > 1 {
-            return Err(Refusal::StateMark(i));
-        }
-    }
-    Ok(())
+    marks
+        .iter()
+        .position(|mark| *mark > 1)
+        .map_or(Ok(()), |i| Err(Refusal::StateMark(i)))
 }
 
 // The items of every section, in the order of the sections.
+#[tactic(auto, unfolding(crate::specs::Check::items_checked))]
 fn check_items(parts: Parts<'_>) -> Result<(), Refusal>
     ensures { result ≡ items_checked (sections parts.entry) }
 {
     check_columns(parts.distances, Kind::Distance.limit())?;
     check_columns(parts.times, Kind::Time.limit())?;
-    check_rows(parts.rows, parts.distances.len() / 2, parts.times.len() / 2)?;
+    let columns = Columns {
+        distances: parts.distances.len() / 2,
+        times: parts.times.len() / 2,
+    };
+    check_rows(parts.rows, columns)?;
     check_aerodromes(parts.aerodromes)?;
     check_marks(parts.marks)
 }
@@ -202,59 +191,46 @@ fn is_good_count(columns: u16) -> bool
     matches!(columns, 0 | 2..=24)
 }
 
-fn check_header(header: Header) -> Result<(), Refusal>
-    ensures { result ≡ hold (header_good header) BookHeader }
+fn is_good_header(header: Header) -> bool
+    ensures { result ≡ header_good header }
 {
-    let good = matches!(header.year, 2019..=2035)
+    matches!(header.year, 2019..=2035)
         && is_good_count(header.distances)
         && is_good_count(header.times)
         && header.rows <= 600
         && header.aerodromes <= 20_000
-        && matches!(header.states, 1..=193);
-    if good {
-        Ok(())
-    } else {
-        Err(Refusal::BookHeader)
-    }
+        && matches!(header.states, 1..=193)
 }
 
 // Each offset is where its section begins; the last one, and the bytes' length, where the book ends.
-fn check_offsets(bytes: &[u8], header: Header) -> Result<(), Refusal>
+fn offsets_are_good(bytes: &[u8], header: Header) -> bool
     requires { 36 ≤ length bytes.now }
-    ensures { result ≡ hold (offsets_good header bytes.now) BookOffsets }
+    ensures { result ≡ offsets_good header bytes.now }
 {
     let starts = header.starts();
-    let good = u32_at(bytes, 12) == 36
+    u32_at(bytes, 12) == 36
         && u32_at(bytes, 16) as usize == starts.times
         && u32_at(bytes, 20) as usize == starts.rows
         && u32_at(bytes, 24) as usize == starts.aerodromes
         && u32_at(bytes, 28) as usize == starts.marks
         && u32_at(bytes, 32) as usize == starts.end
-        && bytes.len() == starts.end;
-    if good {
-        Ok(())
-    } else {
-        Err(Refusal::BookOffsets)
-    }
+        && bytes.len() == starts.end
 }
 
-fn check_length(length: usize) -> Result<(), Refusal>
-    ensures { result ≡ hold (length_good length) BookLength }
+fn hold(good: bool, refusal: Refusal) -> Result<(), Refusal>
+    ensures { result ≡ hold good refusal }
 {
-    match length {
-        36..=1_048_576 => Ok(()),
-        _ => Err(Refusal::BookLength),
-    }
+    if good { Ok(()) } else { Err(refusal) }
 }
 
 // The first check that the bytes fail, or the header of the book that they spell.
 pub fn check_book(bytes: &[u8]) -> Result<Header, Refusal>
     ensures { result ≡ checked bytes.now }
 {
-    check_length(bytes.len())?;
+    hold(matches!(bytes.len(), 36..=1_048_576), Refusal::BookLength)?;
     let header = header(bytes);
-    check_header(header)?;
-    check_offsets(bytes, header)?;
+    hold(is_good_header(header), Refusal::BookHeader)?;
+    hold(offsets_are_good(bytes, header), Refusal::BookOffsets)?;
     check_items(cut(bytes, header))?;
     Ok(header)
 }

@@ -1,14 +1,14 @@
 // What the sections of a data book hold, and where they lie in its bytes.
 ghost use Rattle.std.specs.Prelude.{◌≡◌, ◌≤◌, length};
-ghost use Rattle.book.specs.Items.{tier_of};
+ghost use Rattle.book.specs.Items.{tier_numbered};
 ghost use Rattle.book.specs.Sections.{book_end, starts as starts_of, cut as sections_of};
 ghost use Rattle.book.specs.Parts.{sections};
 
 use units::codes::{AerodromeCode, Designator};
-use units::measures::Kind;
+use units::measures::{Kind, UnknownNumber};
 
 // The year of a book and how many items its sections have.
-#[derive(Clone, Copy)]
+#[derive(Clone, Copy, Debug, PartialEq, Eq)]
 pub struct Header {
     pub year: u16,
     pub distances: u16,
@@ -19,14 +19,14 @@ pub struct Header {
 }
 
 // What a row's fuels rest on: operators' data, an equivalent type, or the Fuel Formula.
-#[derive(Clone, Copy)]
+#[derive(Clone, Copy, Debug, PartialEq, Eq)]
 pub enum Tier {
     Operators,
     Equivalent,
     Formula,
 }
 
-#[derive(Clone, Copy)]
+#[derive(Clone, Copy, Debug, PartialEq, Eq)]
 pub struct Row {
     pub designator: Designator,
     pub kind: Kind,
@@ -34,7 +34,7 @@ pub struct Row {
     pub fuels: usize,
 }
 
-#[derive(Clone, Copy)]
+#[derive(Clone, Copy, Debug, PartialEq, Eq)]
 pub struct Aerodrome {
     pub code: AerodromeCode,
     pub state: u16,
@@ -60,15 +60,19 @@ pub(crate) struct Starts {
     pub(crate) end: usize,
 }
 
-impl Tier {
-    pub(crate) fn of_number(number: u8) -> Option<Tier>
-        ensures { result ≡ tier_of number }
-    {
+impl TryFrom<u8> for Tier {
+    type Error = UnknownNumber;
+
+    ghost try_from_gives = { λ number tier. tier ≡ tier_numbered number };
+
+    fn try_from(number: u8) -> Result<Tier, UnknownNumber> {
         match number {
-            1 => Some(Tier::Operators),
-            2 => Some(Tier::Equivalent),
-            3 => Some(Tier::Formula),
-            _ => None,
+            1 => Ok(Tier::Operators),
+            2 => Ok(Tier::Equivalent),
+            3 => Ok(Tier::Formula),
+            _ => Err(UnknownNumber {
+                number: number as u32,
+            }),
         }
     }
 }

@@ -1,16 +1,18 @@
 // Readers of a checked book.
 ghost use Rattle.std.specs.Prelude.{◌≡◌, length};
+ghost use Rattle.book.specs.Bytes.{items, items_of};
 ghost use Rattle.book.specs.Check.{spelled};
 ghost use Rattle.book.specs.Contents.{columns, column_of, row_in, row_of, fuel_count_of, fuel_of, row_place, aerodrome_in, aerodrome_of, aerodrome_place, takes_part};
 ghost use Rattle.book.specs.Parts.{sections};
 ghost use Rattle.book.specs.Promise.{Promises};
 ghost use Rattle.book.specs.Reading.{contents};
 
-use crate::bytes::{find, front, u16_at};
+use crate::bytes::items as items_in;
 use crate::checked::Book;
 use crate::checks::{check_book, column_at, fuel_at};
 use crate::format::{Aerodrome, Parts, Row, Tier, cut};
 use units::codes::{AerodromeCode, Designator};
+use units::marks;
 use units::measures::Kind;
 
 // The sections of the book that the bytes spell; of bytes that the check refuses, empty ones.
@@ -30,31 +32,29 @@ fn parts_of(bytes: &[u8]) -> Parts<'_>
     }
 }
 
-fn row_in(bytes: &[u8]) -> Option<Row>
-    requires { length bytes.now ≡ 104 }
+fn row_in(bytes: &[u8; 104]) -> Option<Row>
     ensures { result ≡ row_in bytes.now }
 {
-    let kind = Kind::of_number(bytes[4] as u32)?;
-    let tier = Tier::of_number(bytes[5])?;
+    let [a, b, c, d, kind, tier, fuels, ..] = *bytes;
     Some(Row {
         designator: Designator {
-            bytes: [bytes[0], bytes[1], bytes[2], bytes[3]],
+            bytes: [a, b, c, d],
         },
-        kind,
-        tier,
-        fuels: bytes[6] as usize,
+        kind: Kind::try_from(kind as u32).ok()?,
+        tier: Tier::try_from(tier).ok()?,
+        fuels: fuels as usize,
     })
 }
 
-fn aerodrome_in(bytes: &[u8]) -> Aerodrome
-    requires { length bytes.now ≡ 8 }
+fn aerodrome_in(bytes: &[u8; 8]) -> Aerodrome
     ensures { result ≡ aerodrome_in bytes.now }
 {
+    let [a, b, c, d, low, high, ..] = *bytes;
     Aerodrome {
         code: AerodromeCode {
-            bytes: [bytes[0], bytes[1], bytes[2], bytes[3]],
+            bytes: [a, b, c, d],
         },
-        state: u16_at(bytes, 4),
+        state: u16::from_le_bytes([low, high]),
     }
 }
 
@@ -67,6 +67,20 @@ impl<'a> Book<'a> {
         Book {
             parts: parts_of(bytes),
         }
+    }
+
+    fn rows(&self) -> &'a [[u8; 104]]
+        ensures is { result.now ≡ items_of 104 (contents self.now).rows }
+        ensures many { length result.now ≡ items 104 (contents self.now).rows }
+    {
+        items_in(self.parts.rows)
+    }
+
+    fn aerodromes(&self) -> &'a [[u8; 8]]
+        ensures is { result.now ≡ items_of 8 (contents self.now).aerodromes }
+        ensures many { length result.now ≡ items 8 (contents self.now).aerodromes }
+    {
+        items_in(self.parts.aerodromes)
     }
 
     // The columns of a kind.
@@ -87,38 +101,29 @@ impl<'a> Book<'a> {
     }
 
     // Row `i`; none past the last.
+    #[tactic(auto, using(crate::proofs::Fronts::item_at))]
     pub fn row(&self, i: usize) -> Option<Row>
         ensures { result ≡ row_of (contents self.now) i }
     {
-        let rows = self.parts.rows;
-        if i < rows.len() / 104 {
-            row_in(front(rows, 104, 104, i))
-        } else {
-            None
-        }
+        row_in(self.rows().get(i)?)
     }
 
     // How many fuels row `i` has; 0 past the last row.
+    #[tactic(auto, using(crate::proofs::Fronts::item_at))]
     pub fn fuel_count(&self, i: usize) -> usize
         ensures { result ≡ fuel_count_of (contents self.now) i }
     {
-        let rows = self.parts.rows;
-        if i < rows.len() / 104 {
-            front(rows, 104, 104, i)[6] as usize
-        } else {
-            0
-        }
+        self.rows().get(i).map_or(0, |row| row[6] as usize)
     }
 
     // Fuel `j` of row `i`, in kilograms; 0 past the last row or the last place for a fuel.
+    #[tactic(auto, using(crate::proofs::Fronts::item_at))]
     pub fn fuel(&self, i: usize, j: usize) -> u32
         ensures { result ≡ fuel_of (contents self.now) i j }
     {
-        let rows = self.parts.rows;
-        if i < rows.len() / 104 && j < 24 {
-            fuel_at(front(rows, 104, 104, i), j)
-        } else {
-            0
+        match self.rows().get(i) {
+            Some(row) if j < 24 => fuel_at(row, j),
+            _ => 0,
         }
     }
 
@@ -127,35 +132,33 @@ impl<'a> Book<'a> {
         ensures { result ≡ row_place (contents self.now) designator kind }
     {
         let [a, b, c, d] = designator.bytes;
-        find(self.parts.rows, 104, &[a, b, c, d, kind.number()])
+        let key = [a, b, c, d, u8::from(kind)];
+        self.rows()
+            .binary_search_by(|row| row[..5].cmp(&key[..]))
+            .ok()
     }
 
     // Aerodrome `i`; none past the last.
+    #[tactic(auto, using(crate::proofs::Fronts::item_at))]
     pub fn aerodrome(&self, i: usize) -> Option<Aerodrome>
         ensures { result ≡ aerodrome_of (contents self.now) i }
     {
-        let aerodromes = self.parts.aerodromes;
-        if i < aerodromes.len() / 8 {
-            Some(aerodrome_in(front(aerodromes, 8, 8, i)))
-        } else {
-            None
-        }
+        self.aerodromes().get(i).map(aerodrome_in)
     }
 
     // The place of the aerodrome of a code.
     pub fn find_aerodrome(&self, code: AerodromeCode) -> Option<usize>
         ensures { result ≡ aerodrome_place (contents self.now) code }
     {
-        let [a, b, c, d] = code.bytes;
-        find(self.parts.aerodromes, 8, &[a, b, c, d])
+        self.aerodromes()
+            .binary_search_by(|aerodrome| aerodrome[..4].cmp(&code.bytes[..]))
+            .ok()
     }
 
     // Whether a State takes part in offsetting; States past the marks take no part.
     pub fn takes_part(&self, state: u16) -> bool
         ensures { result ≡ takes_part (contents self.now) state }
     {
-        let marks = self.parts.marks;
-        let number = state as usize;
-        1 <= number && number <= marks.len() && marks[number - 1] == 1
+        marks::takes_part(self.parts.marks, state)
     }
 }

@@ -9,12 +9,16 @@ use Rattle.units.specs.Amount.{nearest}
 pub nearest_zero : (n : ℕ) → nearest n 0 ≡ 0
 nearest_zero n = div-zero (2 * n + 0)
 
+-- a quotient whose numerator passes 2 b d by d at most is at most b
+quotient_le : (x b d : ℕ) → 0 < d → x ≤ 2 * (b * d) + d → x / (2 * d) ≤ b
+quotient_le x b d pos le =
+    let wide : (b + 1) * (2 * d) ≡ 2 * (b * d) + 2 * d = add-mul b 1 (2 * d) ∙ (λ i. mul_left_comm b 2 d i + one-mul (2 * d) i) in
+    let below : x / (2 * d) < b + 1 = div_below x (2 * d) (b + 1) (omega arith) (omega arith) in
+    omega arith
+
 -- a whole number that the quotient does not pass is not passed by rounding
 pub nearest_le : (n d b : ℕ) → 0 < d → n ≤ b * d → nearest n d ≤ b
-nearest_le n d b pos le =
-    let wide : (b + 1) * (2 * d) ≡ 2 * (b * d) + 2 * d = add-mul b 1 (2 * d) ∙ (λ i. mul_left_comm b 2 d i + one-mul (2 * d) i) in
-    let below : (2 * n + d) / (2 * d) < b + 1 = div_below (2 * n + d) (2 * d) (b + 1) (omega arith) (omega arith) in
-    omega arith
+nearest_le n d b pos le = quotient_le (2 * n + d) b d pos (omega arith)
 
 -- a whole number that the quotient reaches is reached by rounding
 pub nearest_ge : (n d b : ℕ) → 0 < d → b * d ≤ n → b ≤ nearest n d
@@ -32,6 +36,5 @@ nearest_mono n m d pos le =
 pub quotient_fits : (w : Width) (x n d : ℕ) → Fits w n → 0 < d → x ≤ 2 * n + d → Fits w (x / (2 * d))
 quotient_fits w x n d fits pos le =
     let wide : n ≤ n * d = le-mul_of_pos_right n pos in
-    let swap : (n + 1) * (2 * d) ≡ 2 * (n * d) + 2 * d = add-mul n 1 (2 * d) ∙ (λ i. mul_left_comm n 2 d i + one-mul (2 * d) i) in
-    let below : x / (2 * d) < n + 1 = div_below x (2 * d) (n + 1) (omega arith) (omega arith) in
+    let most = quotient_le x n d pos (omega arith) in
     record { fits = omega (arith, fits.fits) }

@@ -1,5 +1,5 @@
 -- What a refusal is called: the letter of its layer, its number and its place. Assumes nothing.
-use Rattle.std.specs.Prelude.{ℕ}
+use Rattle.std.specs.Prelude.{ℕ, List, ◌∷◌, ◌++◌, decimal}
 use Rattle.units.specs.declared.refusals.Fault.{Fault}
 use Rattle.units.specs.declared.refusals.Layer.{Layer}
 use Rattle.units.specs.declared.refusals.Layer.TheVariants.{Book, Text, Directory, Estimator, Ledger}
@@ -59,3 +59,7 @@ fault OtherLedger = called Ledger 31 0
 fault NoQuery = called Ledger 32 0
 fault OpenQuery = called Text 33 0
 fault BufferShort = called Text 34 0
+
+-- as it is printed: letter, number and place, with a space between
+abbrev pub fault_text : Fault → List ℕ
+fault_text f = letter f.layer ∷ 32 ∷ decimal f.number ++ 32 ∷ decimal f.place

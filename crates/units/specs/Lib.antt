@@ -2,6 +2,7 @@ pub mod Alphabet
 pub mod Amount
 pub mod Entries
 pub mod Fault
+pub mod Marks
 pub mod Measuring
 pub mod Order
 pub mod Places

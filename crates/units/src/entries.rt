@@ -7,7 +7,7 @@ use crate::measures::Measure;
 use crate::refusals::Refusal;
 
 // Its fields in the order of the flight line; well formed and in range or not.
-#[derive(Clone, Copy)]
+#[derive(Clone, Copy, Debug, PartialEq, Eq)]
 pub struct Entry {
     pub reference: u32,
     pub designator: Designator,

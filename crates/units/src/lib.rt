@@ -4,6 +4,7 @@
 pub mod amounts;
 pub mod codes;
 pub mod entries;
+pub mod marks;
 pub mod measures;
 pub mod refusals;
 pub mod worked;

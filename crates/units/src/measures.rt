@@ -1,39 +1,82 @@
 // Distances in whole kilometres and block times in whole minutes.
 ghost use Rattle.std.specs.Prelude.{◌≡◌};
-ghost use Rattle.units.specs.Measuring.{kind_number, kind_of, limit as most, in_range};
+ghost use Rattle.units.specs.Measuring.{kind_number, kind_letter, numbered, lettered, limit as most, in_range};
 
-#[derive(Clone, Copy)]
+#[derive(Clone, Copy, Debug, PartialEq, Eq)]
 pub enum Kind {
     Distance,
     Time,
 }
 
-#[derive(Clone, Copy)]
+#[derive(Clone, Copy, Debug, PartialEq, Eq)]
 pub struct Measure {
     pub kind: Kind,
     pub amount: u32,
 }
 
-impl Kind {
-    pub fn number(self) -> u8
-        ensures { result ≡ kind_number self }
-    {
-        match self {
+// A number that no case has.
+#[derive(Clone, Copy, Debug, PartialEq, Eq)]
+pub struct UnknownNumber {
+    pub number: u32,
+}
+
+// A letter that no case has.
+#[derive(Clone, Copy, Debug, PartialEq, Eq)]
+pub struct UnknownLetter {
+    pub letter: char,
+}
+
+impl From<Kind> for u8 {
+    ghost from_gives = { λ kind number. number ≡ kind_number kind };
+
+    fn from(kind: Kind) -> u8 {
+        match kind {
             Kind::Distance => 1,
             Kind::Time => 2,
         }
     }
+}
 
-    pub fn of_number(number: u32) -> Option<Kind>
-        ensures { result ≡ kind_of number }
-    {
+impl TryFrom<u32> for Kind {
+    type Error = UnknownNumber;
+
+    ghost try_from_gives = { λ number kind. kind ≡ numbered number };
+
+    fn try_from(number: u32) -> Result<Kind, UnknownNumber> {
         match number {
-            1 => Some(Kind::Distance),
-            2 => Some(Kind::Time),
-            _ => None,
+            1 => Ok(Kind::Distance),
+            2 => Ok(Kind::Time),
+            _ => Err(UnknownNumber { number }),
         }
     }
+}
 
+impl From<Kind> for char {
+    ghost from_gives = { λ kind letter. letter ≡ kind_letter kind };
+
+    fn from(kind: Kind) -> char {
+        match kind {
+            Kind::Distance => 'D',
+            Kind::Time => 'T',
+        }
+    }
+}
+
+impl TryFrom<char> for Kind {
+    type Error = UnknownLetter;
+
+    ghost try_from_gives = { λ letter kind. kind ≡ lettered letter };
+
+    fn try_from(letter: char) -> Result<Kind, UnknownLetter> {
+        match letter {
+            'D' => Ok(Kind::Distance),
+            'T' => Ok(Kind::Time),
+            _ => Err(UnknownLetter { letter }),
+        }
+    }
+}
+
+impl Kind {
     // The greatest amount of this kind.
     pub fn limit(self) -> u32
         ensures { result ≡ most self }

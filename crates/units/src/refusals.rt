@@ -1,8 +1,10 @@
 // Every refusal of the ledger, with what its place needs, and what it is called in print.
-ghost use Rattle.std.specs.Prelude.{◌≡◌};
-ghost use Rattle.units.specs.Fault.{letter as letter_of, list_layer, fault as fault_of};
+ghost use Rattle.std.specs.Prelude.{◌≡◌, Some};
+ghost use Rattle.units.specs.Fault.{letter as letter_of, list_layer, fault as fault_of, fault_text};
 
-#[derive(Clone, Copy)]
+use std::fmt;
+
+#[derive(Clone, Copy, Debug, PartialEq, Eq)]
 pub enum Layer {
     Book,
     Text,
@@ -12,14 +14,14 @@ pub enum Layer {
 }
 
 // Whose short list an addition was refused by.
-#[derive(Clone, Copy)]
+#[derive(Clone, Copy, Debug, PartialEq, Eq)]
 pub enum ListOwner {
     OfDirectory,
     OfEstimator,
 }
 
 // One case for each refusal; docs/REFUSALS.md has the conditions.
-#[derive(Clone, Copy)]
+#[derive(Clone, Copy, Debug, PartialEq, Eq)]
 pub enum Refusal {
     BookLength,
     BookHeader,
@@ -58,18 +60,18 @@ pub enum Refusal {
 }
 
 // A refusal as it is printed.
-#[derive(Clone, Copy)]
+#[derive(Clone, Copy, Debug, PartialEq, Eq)]
 pub struct Fault {
     pub layer: Layer,
     pub number: u32,
     pub place: usize,
 }
 
-impl Layer {
-    pub fn letter(self) -> char
-        ensures { result ≡ letter_of self }
-    {
-        match self {
+impl From<Layer> for char {
+    ghost from_gives = { λ layer letter. letter ≡ letter_of layer };
+
+    fn from(layer: Layer) -> char {
+        match layer {
             Layer::Book => 'B',
             Layer::Text => 'T',
             Layer::Directory => 'D',
@@ -79,22 +81,22 @@ impl Layer {
     }
 }
 
-impl ListOwner {
-    fn layer(self) -> Layer
-        ensures { result ≡ list_layer self }
-    {
-        match self {
+impl From<ListOwner> for Layer {
+    ghost from_gives = { λ owner layer. layer ≡ list_layer owner };
+
+    fn from(owner: ListOwner) -> Layer {
+        match owner {
             ListOwner::OfDirectory => Layer::Directory,
             ListOwner::OfEstimator => Layer::Estimator,
         }
     }
 }
 
-impl Refusal {
-    pub fn fault(self) -> Fault
-        ensures { result ≡ fault_of self }
-    {
-        let (layer, number, place) = match self {
+impl From<Refusal> for Fault {
+    ghost from_gives = { λ refusal fault. fault ≡ fault_of refusal };
+
+    fn from(refusal: Refusal) -> Fault {
+        let (layer, number, place) = match refusal {
             Refusal::BookLength => (Layer::Book, 1, 0),
             Refusal::BookHeader => (Layer::Book, 2, 0),
             Refusal::BookOffsets => (Layer::Book, 3, 0),
@@ -102,10 +104,10 @@ impl Refusal {
             Refusal::BookRow(item) => (Layer::Book, 5, item),
             Refusal::BookAerodrome(item) => (Layer::Book, 6, item),
             Refusal::StateMark(item) => (Layer::Book, 7, item),
-            Refusal::ListFull(owner) => (owner.layer(), 8, 0),
-            Refusal::ListCode(owner) => (owner.layer(), 9, 0),
-            Refusal::ListRepeated(owner) => (owner.layer(), 10, 0),
-            Refusal::ListValue(owner) => (owner.layer(), 11, 0),
+            Refusal::ListFull(owner) => (owner.into(), 8, 0),
+            Refusal::ListCode(owner) => (owner.into(), 9, 0),
+            Refusal::ListRepeated(owner) => (owner.into(), 10, 0),
+            Refusal::ListValue(owner) => (owner.into(), 11, 0),
             Refusal::LineLength => (Layer::Text, 12, 0),
             Refusal::LineVerb => (Layer::Text, 13, 0),
             Refusal::LineFields => (Layer::Text, 14, 0),
@@ -135,5 +137,28 @@ impl Refusal {
             number,
             place,
         }
+    }
+}
+
+// The letter of the layer, the number and the place, as every program prints them.
+impl fmt::Display for Fault {
+    ghost output = { λ f. Some (fault_text f) };
+
+    fn fmt<W: fmt::Write>(&self, f: &mut fmt::Formatter<W>) -> fmt::Result {
+        write!(
+            f,
+            "{} {} {}",
+            char::from(self.layer),
+            self.number,
+            self.place
+        )
+    }
+}
+
+impl fmt::Display for Refusal {
+    ghost output = { λ r. Some (fault_text (fault_of r)) };
+
+    fn fmt<W: fmt::Write>(&self, f: &mut fmt::Formatter<W>) -> fmt::Result {
+        Fault::from(*self).fmt(f)
     }
 }

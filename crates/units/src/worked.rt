@@ -2,7 +2,7 @@
 use crate::entries::Entry;
 
 // Striking or settling it asks nobody: what went into its rows is kept here.
-#[derive(Clone, Copy)]
+#[derive(Clone, Copy, Debug, PartialEq, Eq)]
 pub struct WorkedEntry {
     pub entry: Entry,
     // the States of departure and arrival
@@ -16,7 +16,7 @@ pub struct WorkedEntry {
     pub under_query: bool,
 }
 
-#[derive(Clone, Copy)]
+#[derive(Clone, Copy, Debug, PartialEq, Eq)]
 pub struct Marks {
     // its fuel is an estimate
     pub gap: bool,

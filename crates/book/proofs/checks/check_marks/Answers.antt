@@ -1,21 +1,14 @@
-use Rattle.std.proofs.lemmas.Bool.{lt-ltb, le-ltb}
+use Rattle.std.proofs.Common.{◌≡◌, ltb, rules, ap, ◌∙◌}
+use Rattle.std.proofs.lemmas.Iterator.{YieldsList-from_slice}
+use Rattle.std.proofs.lemmas.Iterator.Search.{position_from_yields_List}
 use Rattle.units.specs.declared.refusals.Refusal.TheVariants.{StateMark}
-use Rattle.units.proofs.Searched.{passed_more}
-use Rattle.book.specs.Check.{marks_checked}
-use Rattle.book.specs.Items.{mark_wrong}
-use Rattle.book.proofs.Refused.{refused, accepted}
+use Rattle.book.specs.Check.{all_good, marks_checked}
+use Rattle.book.proofs.Refused.{position_first}
 use Rattle.book.proofs.checks.check_marks.Goals as goal
-
-pub loop-i-preserved : goal.loop-i-preserved
-loop-i-preserved c =
-    passed_more (mark_wrong c.args.marks.now) _ _ c.loop-i-test.true c.loop-i.invariant (le-ltb 1 _ c.if-mark-gt1.false)
-
-pub returns-then-mark-gt1 : goal.returns-then-mark-gt1
-unfolding marks_checked
-returns-then-mark-gt1 c =
-    refused StateMark (mark_wrong c.args.marks.now) _ _
-    c.loop-i-test.true c.loop-i.invariant (lt-ltb 1 _ c.if-mark-gt1.true)
 
 pub returns : goal.returns
 unfolding marks_checked
-returns c = accepted StateMark (mark_wrong c.args.marks.now) _ _ c.loop-i-test.false c.loop-i.invariant
+returns c =
+    let place = position_from_yields_List (λ mark. ltb 1 mark) _ _ c.position.result c.position.ensures.ran (YieldsList-from_slice c.args.marks.now cc) (λ x b q k. search rules) in
+    let told : c.map_or.result ≡ all_good StateMark c.position.result = search rules in
+    told ∙ ap (all_good StateMark) (place ∙ position_first (λ mark. ltb 1 mark) c.args.marks.now)

@@ -1,25 +1,13 @@
-use Rattle.std.proofs.Common.{sym}
+use Rattle.std.proofs.Common.{◌≡◌, rules, ap, ◌∙◌}
 use Rattle.units.specs.declared.refusals.Refusal.TheVariants.{BookRow}
-use Rattle.units.proofs.Searched.{passed_none, passed_more}
-use Rattle.book.specs.Check.{row_bad, rows_checked}
-use Rattle.book.proofs.Refused.{refused, accepted}
+use Rattle.book.specs.Check.{all_good, rows_checked}
+use Rattle.book.specs.Check.{row_bad}
+use Rattle.book.proofs.Refused.{found_first}
 use Rattle.book.proofs.checks.check_rows.Goals as goal
-
-pub loop-i-init : goal.loop-i-init
-loop-i-init c = passed_none _ _
-
-pub loop-i-preserved : goal.loop-i-preserved
-loop-i-preserved c =
-    passed_more (row_bad c.args.distances c.args.times c.args.rows.now) _ _
-    c.loop-i-test.true c.loop-i.invariant (sym c.if-row_is_bad.ensures)
-
-pub returns-then-row_is_bad : goal.returns-then-row_is_bad
-unfolding rows_checked
-returns-then-row_is_bad c =
-    refused BookRow (row_bad c.args.distances c.args.times c.args.rows.now) _ _
-    c.loop-i-test.true c.loop-i.invariant (sym c.if-row_is_bad.ensures)
 
 pub returns : goal.returns
 unfolding rows_checked
 returns c =
-    accepted BookRow (row_bad c.args.distances c.args.times c.args.rows.now) _ _ c.loop-i-test.false c.loop-i.invariant
+    let place = found_first (row_bad c.args.columns.distances c.args.columns.times c.args.rows.now) _ _ _ c.find.result c.find.ensures.ran (λ x b q k. search rules) in
+    let told : c.map_or.result ≡ all_good BookRow c.find.result = search rules in
+    told ∙ ap (all_good BookRow) place
