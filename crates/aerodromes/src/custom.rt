@@ -8,7 +8,7 @@ use units::codes::{AerodromeCode, is_aerodrome_code, is_state};
 use units::refusals::ListOwner;
 
 // A code, well formed or not, and a State, in range or not.
-#[derive(Clone, Copy)]
+#[derive(Clone, Copy, Debug, PartialEq, Eq)]
 pub struct CustomAerodrome {
     pub code: AerodromeCode,
     pub state: u16,
