@@ -1,5 +1,6 @@
 -- Questions about one flight and one aerodrome, with what was given. Assumes nothing.
-use Rattle.std.specs.Prelude.{ℕ, cond, Some, None, Ok, Err, Option, Result}
+use Rattle.std.specs.Prelude.{ℕ, cond, Ok, Err, Option, Result}
+use Rattle.std.specs.Option.{ok_or}
 use Rattle.units.specs.Alphabet.{designator, aerodrome_code}
 use Rattle.units.specs.Measuring.{in_range}
 use Rattle.units.specs.Steps.{then}
@@ -9,14 +10,12 @@ use Rattle.units.specs.declared.measures.Kind.{Kind}
 use Rattle.units.specs.declared.measures.Measure.{Measure}
 use Rattle.units.specs.declared.refusals.Refusal.{Refusal}
 use Rattle.units.specs.declared.refusals.Refusal.TheVariants.{OutOfRange, DepartureUnknown}
-use Rattle.estimators.specs.Answers.{outcome}
+use Rattle.estimators.specs.Answers.{Answer, outcome}
 use Rattle.estimators.specs.Laws.{of}
-use Rattle.estimators.specs.declared.answers.Answer.{Answer}
 
 -- a value that was given, or the field that is missing
 abbrev pub given : {A : Type 0} → ℕ → Option A → Result A Refusal
-given field None = Err (OutOfRange field)
-given field (Some x) = Ok x
+given field value = ok_or value (OutOfRange field)
 
 -- a measure within its range, else field 7 is out of range
 abbrev pub ranged : Measure → Result Measure Refusal
@@ -35,8 +34,7 @@ fuel_asked meaning d kind amount = then (asked_type d) (λ t. then (asked_measur
 
 -- the State that was found, else the aerodrome is not known
 abbrev pub state_found : Option ℕ → Result ℕ Refusal
-state_found None = Err DepartureUnknown
-state_found (Some n) = Ok n
+state_found state = ok_or state DepartureUnknown
 
 -- a well-formed code, else field 4 is out of range
 abbrev pub asked_code : AerodromeCode → Result AerodromeCode Refusal
