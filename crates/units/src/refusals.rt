@@ -20,7 +20,8 @@ pub enum ListOwner {
     OfEstimator,
 }
 
-// One case for each refusal; docs/REFUSALS.md has the conditions.
+// One case for each refusal; docs/REFUSALS.md has the conditions. A number beside a case is its place as it is printed, of
+// an item, a field or a table: an enum of fields would refuse places that a caller may give today.
 #[derive(Clone, Copy, Debug, PartialEq, Eq)]
 pub enum Refusal {
     BookLength,
