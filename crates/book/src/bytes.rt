@@ -1,4 +1,4 @@
-// Numbers, items and look-ups in a run of bytes.
+// Numbers and items in a run of bytes.
 ghost use Rattle.std.specs.Prelude.{◌≡◌, ◌+◌, ◌*◌, ◌<◌, ◌≤◌, length};
 ghost use Rattle.book.specs.Bytes.{u16_at, u32_at, items, items_of};
 

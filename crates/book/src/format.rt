@@ -40,7 +40,7 @@ pub struct Aerodrome {
     pub state: u16,
 }
 
-// The five sections, as parts of the book's bytes.
+// The five sections, as parts of the book's bytes, which the definitions speak of; `items` cuts them where they are read.
 #[derive(Clone, Copy)]
 pub struct Parts<'a> {
     pub(crate) distances: &'a [u8],
