@@ -1,5 +1,5 @@
 // A change of one row, planned on the table as it stands and then made.
-ghost use Rattle.std.specs.Prelude.{◌≡◌};
+ghost use Rattle.std.specs.Prelude.{◌≡◌, ◌≤◌, length};
 ghost use Rattle.sums.specs.Changes.{adding, taking, counted, changed, count_after, rows_after};
 ghost use Rattle.sums.specs.Laws.{Lawful};
 ghost use Rattle.table.specs.Changing.{used};
@@ -7,6 +7,7 @@ ghost use Rattle.table.specs.Changing.{used};
 use crate::amounts::Amounts;
 use crate::rows::Row;
 use keys::key::Key;
+use table::lent::Table;
 use table::steps;
 use units::refusals::Refusal;
 
@@ -16,6 +17,9 @@ pub enum Change<K: Key> {
     Replace(usize, Row<K>),
     Remove(usize),
 }
+
+// Rows that are only read come with their count: a `Table` of both asks for the loan of a `&mut` slice, and does not
+// say whether a place is free.
 
 // What adding comes to; `table` is the number that a refusal for want of a free place names.
 #[tactic(auto, using(crate::proofs::Places::located_within, crate::proofs::Places::located_read))]
@@ -63,17 +67,17 @@ fn plan_taking<K: Key>(rows: &[Row<K>], count: usize, less: Row<K>) -> Result<Ch
 
 // Makes the change and answers how many rows there are then.
 fn apply<K: Key>(rows: &mut [Row<K>], count: usize, change: Change<K>) -> usize
+    requires { count ≤ length rows.old }
     ensures answer { result ≡ counted change rows.old count }
     ensures rows { rows.new ≡ changed K.Key.digits K.Key.zero change rows.old count }
 {
+    let mut table = Table::of(rows, count);
     match change {
-        Change::Insert(place, row) => count + usize::from(steps::insert(rows, count, place, row)),
-        Change::Replace(place, row) => {
-            steps::replace(rows, count, place, row);
-            count
-        }
-        Change::Remove(place) => count - usize::from(steps::remove(rows, count, place)),
-    }
+        Change::Insert(place, row) => table.insert(place, row),
+        Change::Replace(place, row) => table.replace(place, row),
+        Change::Remove(place) => table.remove(place),
+    };
+    table.count()
 }
 
 // How many rows are looked at. The laws of adding are stated here, so that `add` is proved of its own code.

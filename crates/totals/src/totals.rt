@@ -34,6 +34,7 @@ impl Totals {
     }
 }
 
+// Of the first `count` rows. They come as a slice and a count, since a `Table` of both asks for the loan of a `&mut` slice.
 pub fn total(year: u16, marks: &[u8], rows: &[Row<StatePair>], count: usize) -> Totals
     ensures { result ≡ totals_of year marks.now (take (used rows.now count) rows.now) }
 {
