@@ -1,17 +1,7 @@
 // Estimates of the example's row: at columns, between them, past the last, and halves upward.
-use crate::example::EXAMPLE;
+use crate::example::{EXAMPLE, asked};
 use book::checked::Book;
-use estimators::asking::Estimator;
-use units::codes::Designator;
-use units::measures::{Kind, Measure};
-use units::refusals::{Fault, Refusal};
-
-// The fuel in grams, or the refusal's number.
-fn asked(book: &Book<'_>, designator: &[u8; 4], kind: Kind, amount: u32) -> Result<u64, u32> {
-    let designator = Designator { bytes: *designator };
-    book.ask(designator, Measure { kind, amount })
-        .map_err(|none| Fault::from(Refusal::from(none)).number)
-}
+use units::measures::Kind;
 
 const ON_GL7T: [(u32, u64); 9] = [
     (0, 759_000),

@@ -1,6 +1,9 @@
 // The example book: 2023, 17 distance columns, row GL7T, aerodromes AAAA in State 1 and BBBB in State 2.
 use book::checks::check_book;
 use book::format::Header;
+use estimators::asking::Estimator;
+use units::codes::Designator;
+use units::measures::{Kind, Measure};
 use units::refusals::{Fault, Refusal};
 
 pub(crate) const EXAMPLE: [u8; 192] = [
@@ -16,13 +19,23 @@ pub(crate) const EXAMPLE: [u8; 192] = [
 
 // What was answered; a refusal by its number and place.
 pub(crate) fn told<T: Drop>(answer: Result<T, Refusal>) -> Result<T, (u32, usize)> {
-    match answer {
-        Ok(value) => Ok(value),
-        Err(refusal) => {
-            let fault = Fault::from(refusal);
-            Err((fault.number, fault.place))
-        }
-    }
+    answer.map_err(|refusal| {
+        let fault = Fault::from(refusal);
+        (fault.number, fault.place)
+    })
+}
+
+// The fuel in grams, or the refusal's number.
+pub(crate) fn asked<E: Estimator>(
+    estimator: &E,
+    name: &[u8; 4],
+    kind: Kind,
+    amount: u32,
+) -> Result<u64, u32> {
+    let designator = Designator { bytes: *name };
+    estimator
+        .ask(designator, Measure { kind, amount })
+        .map_err(|none| Fault::from(Refusal::from(none)).number)
 }
 
 pub(crate) fn verdict(bytes: &[u8]) -> Result<Header, (u32, usize)> {

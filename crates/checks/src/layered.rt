@@ -1,21 +1,12 @@
 // Equivalents and custom types over the example book: boundaries, orders of checks, and what passes up.
-use crate::example::EXAMPLE;
+use crate::example::{EXAMPLE, asked};
 use book::checked::Book;
-use estimators::asking::Estimator;
 use layers::customs::CustomTypes;
 use layers::equivalents::Equivalents;
 use layers::items::{CustomType, Equivalent};
 use units::codes::Designator;
-use units::measures::{Kind, Measure};
+use units::measures::Kind;
 use units::refusals::{Fault, Refusal};
-
-// The fuel in grams, or the refusal's number.
-fn asked<E: Estimator>(estimator: &E, name: &[u8; 4], kind: Kind, amount: u32) -> Result<u64, u32> {
-    let designator = Designator { bytes: *name };
-    estimator
-        .ask(designator, Measure { kind, amount })
-        .map_err(|none| Fault::from(Refusal::from(none)).number)
-}
 
 // What was answered; a refusal by its number.
 fn number(answer: Result<(), Refusal>) -> Result<(), u32> {
@@ -42,13 +33,22 @@ fn custom(name: &[u8; 4], category: u32, mass: u32) -> CustomType {
 #[test]
 fn equivalents_scale_the_named_type(rt: HostRuntime) {
     let mut layer = Equivalents::new(Book::of(&EXAMPLE));
-    assert_eq!(rt; number(layer.add(equivalent(b"AT3 ", b"GL7T", 1, 3))), Ok(()));
+    assert_eq!(rt;
+        number(layer.add(equivalent(b"AT3 ", b"GL7T", 1, 3))),
+        Ok(())
+    );
     assert_eq!(rt;
         number(layer.add(equivalent(b"BIG ", b"GL7T", 10_000, 1))),
         Ok(())
     );
-    assert_eq!(rt; number(layer.add(equivalent(b"AB  ", b"AT3 ", 1, 1))), Ok(()));
-    assert_eq!(rt; number(layer.add(equivalent(b"GL7T", b"AT3 ", 2, 1))), Ok(()));
+    assert_eq!(rt;
+        number(layer.add(equivalent(b"AB  ", b"AT3 ", 1, 1))),
+        Ok(())
+    );
+    assert_eq!(rt;
+        number(layer.add(equivalent(b"GL7T", b"AT3 ", 2, 1))),
+        Ok(())
+    );
     assert_eq!(rt; asked(&layer, b"AT3 ", Kind::Distance, 750), Ok(667_333));
     assert_eq!(rt; asked(&layer, b"AT3 ", Kind::Distance, 10_001), Err(23));
     assert_eq!(rt; asked(&layer, b"AT3 ", Kind::Time, 60), Err(22));
@@ -61,9 +61,18 @@ fn equivalents_scale_the_named_type(rt: HostRuntime) {
 #[test]
 fn equivalents_are_checked_in_order(rt: HostRuntime) {
     let mut layer = Equivalents::new(Book::of(&EXAMPLE));
-    assert_eq!(rt; number(layer.add(equivalent(b"at3 ", b"GL7T", 0, 0))), Err(9));
-    assert_eq!(rt; number(layer.add(equivalent(b"AT3 ", b"gl7t", 0, 0))), Err(9));
-    assert_eq!(rt; number(layer.add(equivalent(b"AT3 ", b"GL7T", 0, 1))), Err(11));
+    assert_eq!(rt;
+        number(layer.add(equivalent(b"at3 ", b"GL7T", 0, 0))),
+        Err(9)
+    );
+    assert_eq!(rt;
+        number(layer.add(equivalent(b"AT3 ", b"gl7t", 0, 0))),
+        Err(9)
+    );
+    assert_eq!(rt;
+        number(layer.add(equivalent(b"AT3 ", b"GL7T", 0, 1))),
+        Err(11)
+    );
     assert_eq!(rt;
         number(layer.add(equivalent(b"AT3 ", b"GL7T", 1, 10_001))),
         Err(11)
@@ -72,13 +81,22 @@ fn equivalents_are_checked_in_order(rt: HostRuntime) {
         number(layer.add(equivalent(b"AT3 ", b"GL7T", 10_000, 1))),
         Ok(())
     );
-    assert_eq!(rt; number(layer.add(equivalent(b"AT3 ", b"GL7T", 0, 0))), Err(10));
+    assert_eq!(rt;
+        number(layer.add(equivalent(b"AT3 ", b"GL7T", 0, 0))),
+        Err(10)
+    );
     for i in 0..63u8 {
         let name = [b'B', b'A' + i / 10, b'0' + i % 10, b' '];
         assert_eq!(rt; number(layer.add(equivalent(&name, b"GL7T", 1, 1))), Ok(()));
     }
-    assert_eq!(rt; number(layer.add(equivalent(b"ZZZZ", b"GL7T", 1, 1))), Err(8));
-    assert_eq!(rt; number(layer.add(equivalent(b"at3 ", b"GL7T", 0, 0))), Err(8));
+    assert_eq!(rt;
+        number(layer.add(equivalent(b"ZZZZ", b"GL7T", 1, 1))),
+        Err(8)
+    );
+    assert_eq!(rt;
+        number(layer.add(equivalent(b"at3 ", b"GL7T", 0, 0))),
+        Err(8)
+    );
 }
 
 // Category, mass, and what the list answers.

@@ -95,7 +95,10 @@ fn told(refusal: Refusal) -> (char, u32, usize) {
 #[test]
 fn refusals_have_their_names(rt: HostRuntime) {
     assert_eq!(rt; told(Refusal::BookRow(7)), ('B', 5, 7));
-    assert_eq!(rt; told(Refusal::ListFull(ListOwner::OfDirectory)), ('D', 8, 0));
+    assert_eq!(rt;
+        told(Refusal::ListFull(ListOwner::OfDirectory)),
+        ('D', 8, 0)
+    );
     assert_eq!(rt; told(Refusal::BeyondModel), ('E', 23, 7));
     assert_eq!(rt; told(Refusal::OutOfRange(3)), ('L', 18, 3));
     assert_eq!(rt; told(Refusal::OpenQuery), ('T', 33, 0));

@@ -74,12 +74,18 @@ fn far_is_under_half_or_over_double(rt: HostRuntime) {
         worked(reporting(10_010)),
         Ok((10_010_000, false, false, false))
     );
-    assert_eq!(rt; worked(reporting(10_009)), Ok((10_009_000, false, true, false)));
+    assert_eq!(rt;
+        worked(reporting(10_009)),
+        Ok((10_009_000, false, true, false))
+    );
     assert_eq!(rt;
         worked(reporting(40_040)),
         Ok((40_040_000, false, false, false))
     );
-    assert_eq!(rt; worked(reporting(40_041)), Ok((40_041_000, false, true, false)));
+    assert_eq!(rt;
+        worked(reporting(40_041)),
+        Ok((40_041_000, false, true, false))
+    );
 }
 
 #[test]
