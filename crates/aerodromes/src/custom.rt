@@ -14,6 +14,7 @@ pub struct CustomAerodrome {
     pub state: u16,
 }
 
+// Fills the places of a list that are not used. By hand, since a code, a type of units, has no default.
 impl Default for CustomAerodrome {
     ghost is_default = { λ a. (a.code.bytes ≡ 0 ∷ 0 ∷ 0 ∷ 0 ∷ []) × (a.state ≡ 0) };
 
