@@ -1,10 +1,12 @@
 -- A line that is taken is the line of its order.
-use Rattle.std.proofs.Common.{◌≡◌, ℕ, cond, eqb, List, [], ◌∷◌, length, Some, Ok, Err, Result, sym, refl, ap, ◌∙◌, arith}
+use Rattle.std.proofs.Common.{◌≡◌, ℕ, ◌<◌, cond, eqb, List, [], ◌∷◌, length, get_or, map, Some, Ok, Err, sym, refl, ap, ◌∙◌, arith}
+use Rattle.std.specs.List.{range_with_len}
 use Rattle.std.specs.Option.{ok_or}
 use Rattle.std.proofs.lemmas.Bool.Decides.{Decides-eqb}
+use Rattle.std.proofs.lemmas.List.{same_lists, get_or_default}
+use Rattle.std.proofs.lemmas.List.FromFn.{length-map-range_with_len, get_or-map-range_with_len}
 use Rattle.std.proofs.lemmas.List.Splits.{join_with_byte-slice_split}
 use Rattle.units.specs.declared.entries.Entry.{Entry}
-use Rattle.units.specs.declared.refusals.Refusal.{Refusal}
 use Rattle.units.specs.declared.refusals.Refusal.TheVariants.{LineVerb, LineFields}
 use Rattle.lines.specs.Fields.{split, join, part, comma}
 use Rattle.lines.specs.Laws.{SpeltAgain}
@@ -15,7 +17,7 @@ use Rattle.lines.specs.declared.orders.Order.{Order}
 use Rattle.lines.specs.declared.orders.Order.TheVariants.{Add, Amend, Delete}
 use Rattle.lines.specs.declared.orders.Verb.{Verb}
 use Rattle.lines.specs.declared.orders.Verb.TheVariants as verbs
-use Rattle.lines.proofs.Inverse.{then_ok, asked_ok, cond_ok}
+use Rattle.lines.proofs.Inverse.{ok_same, then_ok, asked_ok, cond_ok}
 use Rattle.lines.proofs.Spelt.{verb_spelt, number_spelt, type_spelt, code_spelt, kind_spelt, reported_spelt, exempt_spelt}
 
 cons : {A : Type 0} {x y : A} {xs ys : List A} → x ≡ y → xs ≡ ys → x ∷ xs ≡ y ∷ ys
@@ -24,9 +26,6 @@ cons e f = cc
 pub join_split : (line : List ℕ) → join (split line) ≡ line
 unfolding split join
 join_split line = join_with_byte-slice_split comma line
-
-ok_same : {A : Type 0} (x y : A) → ◌≡◌ {A = Result A Refusal} (Ok x) (Ok y) → x ≡ y
-ok_same x y e = cc
 
 entry_again : (parts : List (List ℕ)) (e : Entry) → entry_in parts ≡ Ok e
     → entry_words e ≡ part 2 parts ∷ part 3 parts ∷ part 4 parts ∷ part 5 parts ∷ part 6 parts ∷ part 7 parts ∷ part 8 parts ∷ part 9 parts ∷ part 10 parts ∷ []
@@ -40,7 +39,7 @@ entry_again parts e h =
     let f = then_ok _ _ e m.2 in
     let g = then_ok _ _ e f.2 in
     let x = then_ok _ _ e g.2 in
-    let made : record {
+    let entry : record {
       reference = r.0;
       designator = t.0;
       departure = d.0;
@@ -50,7 +49,7 @@ entry_again parts e h =
       reported = g.0;
       exempt = x.0;
     } ≡ e = ok_same _ e x.2 in
-    ap entry_words (sym made) ∙
+    ap entry_words (sym entry) ∙
     cons (number_spelt (part 2 parts) r.0 (asked_ok _ _ _ r.1))
     (cons (type_spelt (part 3 parts) t.0 (asked_ok _ _ _ t.1))
     (cons (code_spelt (part 4 parts) d.0 (asked_ok _ _ _ d.1))
@@ -62,37 +61,23 @@ entry_again parts e h =
     (cons (exempt_spelt (part 10 parts) x.0 (asked_ok _ _ _ x.1))
     refl))))))))
 
--- ten parts, and two
-ten : (parts : List (List ℕ)) → length parts ≡ 10 → part 1 parts ∷ part 2 parts ∷ part 3 parts ∷ part 4 parts ∷ part 5 parts ∷ part 6 parts ∷ part 7 parts ∷ part 8 parts ∷ part 9 parts ∷ part 10 parts ∷ [] ≡ parts
-ten [] q = absurd (omega arith)
-ten (a ∷ []) q = absurd (omega arith)
-ten (a ∷ b ∷ []) q = absurd (omega arith)
-ten (a ∷ b ∷ c ∷ []) q = absurd (omega arith)
-ten (a ∷ b ∷ c ∷ d ∷ []) q = absurd (omega arith)
-ten (a ∷ b ∷ c ∷ d ∷ e ∷ []) q = absurd (omega arith)
-ten (a ∷ b ∷ c ∷ d ∷ e ∷ f ∷ []) q = absurd (omega arith)
-ten (a ∷ b ∷ c ∷ d ∷ e ∷ f ∷ g ∷ []) q = absurd (omega arith)
-ten (a ∷ b ∷ c ∷ d ∷ e ∷ f ∷ g ∷ h ∷ []) q = absurd (omega arith)
-ten (a ∷ b ∷ c ∷ d ∷ e ∷ f ∷ g ∷ h ∷ i ∷ []) q = absurd (omega arith)
-ten (a ∷ b ∷ c ∷ d ∷ e ∷ f ∷ g ∷ h ∷ i ∷ j ∷ []) q = refl
-ten (a ∷ b ∷ c ∷ d ∷ e ∷ f ∷ g ∷ h ∷ i ∷ j ∷ k ∷ parts) q = absurd (omega arith)
-
-two : (parts : List (List ℕ)) → length parts ≡ 2 → part 1 parts ∷ part 2 parts ∷ [] ≡ parts
-two [] q = absurd (omega arith)
-two (a ∷ []) q = absurd (omega arith)
-two (a ∷ b ∷ []) q = refl
-two (a ∷ b ∷ c ∷ parts) q = absurd (omega arith)
+-- a list of a known length is its elements
+listed : (parts : List (List ℕ)) (n : ℕ) → length parts ≡ n → map (λ i. get_or parts i []) (range_with_len 0 n) ≡ parts
+listed parts n e =
+    same_lists _ parts (length-map-range_with_len (λ i. get_or parts i []) 0 n ∙ sym e)
+    (λ k d h. let inside : k < n = omega (arith, length-map-range_with_len (λ i. get_or parts i []) 0 n) in
+    get_or-map-range_with_len (λ i. get_or parts i []) 0 n k k d inside (omega arith) ∙ get_or_default parts k [] d (omega arith))
 
 order_again : (v : Verb) (parts : List (List ℕ)) (o : Order) → verb (part 1 parts) ≡ Some v → length parts ≡ fields_of v → order_in v parts ≡ Ok o → order_words o ≡ parts
 order_again verbs.Add parts o word long h =
     let r = then_ok (entry_in parts) (λ e. Ok (Add e)) o h in
-    ap order_words (sym (ok_same (Add r.0) o r.2)) ∙ cons (verb_spelt (part 1 parts) verbs.Add word) (entry_again parts r.0 r.1) ∙ ten parts long
+    ap order_words (sym (ok_same (Add r.0) o r.2)) ∙ cons (verb_spelt (part 1 parts) verbs.Add word) (entry_again parts r.0 r.1) ∙ listed parts 10 long
 order_again verbs.Amend parts o word long h =
     let r = then_ok (entry_in parts) (λ e. Ok (Amend e)) o h in
-    ap order_words (sym (ok_same (Amend r.0) o r.2)) ∙ cons (verb_spelt (part 1 parts) verbs.Amend word) (entry_again parts r.0 r.1) ∙ ten parts long
+    ap order_words (sym (ok_same (Amend r.0) o r.2)) ∙ cons (verb_spelt (part 1 parts) verbs.Amend word) (entry_again parts r.0 r.1) ∙ listed parts 10 long
 order_again verbs.Delete parts o word long h =
     let r = then_ok (asked 2 (number (part 2 parts))) (λ n. Ok (Delete n)) o h in
-    ap order_words (sym (ok_same (Delete r.0) o r.2)) ∙ cons (verb_spelt (part 1 parts) verbs.Delete word) (cons (number_spelt (part 2 parts) r.0 (asked_ok _ _ _ r.1)) refl) ∙ two parts long
+    ap order_words (sym (ok_same (Delete r.0) o r.2)) ∙ cons (verb_spelt (part 1 parts) verbs.Delete word) (cons (number_spelt (part 2 parts) r.0 (asked_ok _ _ _ r.1)) refl) ∙ listed parts 2 long
 
 parts_again : (parts : List (List ℕ)) (o : Order) → parts_read parts ≡ Ok o → order_words o ≡ parts
 parts_again parts o h =

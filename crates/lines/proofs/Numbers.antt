@@ -1,10 +1,10 @@
 -- What `parse` answers at a number of a line.
-use Rattle.std.proofs.Common.{◌≡◌, ℕ, ◌^◌, ◌<◌, ◌≤◌, Bool, true, false, eqb, List, length, get_or, Some, Ok, Err, Result, sym, ap, ◌∙◌, arith}
+use Rattle.std.proofs.Common.{◌≡◌, ℕ, ◌^◌, ◌<◌, ◌≤◌, true, List, length, get_or, Some, Ok, Err, Result, sym, ap, ◌∙◌, arith}
 use Rattle.std.specs.Result.{OkIff, result_ok}
 use Rattle.std.specs.Str.Parse.{digits_value, ParsesUnsigned}
 use Rattle.std.specs.Str.{all_ascii_digits}
 use Rattle.std.proofs.lemmas.Str.Parse.{IsNumeralModel, numerals_by_value, tells_all_ascii_digits, parse_plain, digits_value_short, digit_at}
-use Rattle.std.proofs.lemmas.Bool.{cond-true, cond-false, false_from_ne_true}
+use Rattle.std.proofs.lemmas.Bool.{and_parts, cond-true, cond-false, eqb-false, false_from_ne_true, not-true}
 use Rattle.std.proofs.lemmas.Bool.Decides.{nat_tests}
 use Rattle.lines.specs.Forms.{number, numeral, plain}
 
@@ -33,6 +33,4 @@ parsed bytes p (Err e) k = sym (cond-false _ _ _ (false_from_ne_true _ (λ n.
     k (digits_of bytes n, l.0, omega arith))))
 
 pub number_parsed : {X : Type 0} (bytes : List ℕ) (r : Result ℕ X) → plain bytes ≡ true → ParsesUnsigned 32 10 bytes r → result_ok r ≡ number bytes
-number_parsed bytes r p h =
-    let s : get_or bytes 0 0 ≡ 43 → ⊥ = λ e. (let z : eqb (get_or bytes 0 0) 43 ≡ true = grind (arith, nat_tests) in let y : ◌≡◌ {A = Bool} true false = grind (arith, nat_tests) in let x : ◌≡◌ {A = ℕ} 0 1 = cc in omega arith) in
-    parsed bytes p r (parse_plain own 32 bytes r h s)
+number_parsed bytes r p h = parsed bytes p r (parse_plain own 32 bytes r h (eqb-false _ _ (not-true _ (and_parts _ _ p).1)))

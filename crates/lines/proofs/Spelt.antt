@@ -2,10 +2,10 @@
 use Rattle.std.proofs.Common.{◌≡◌, ℕ, ◌≤◌, Bool, true, false, cond, ◌&&◌, eqb, leb, ◌⊎◌, List, [], ◌∷◌, length, get_or, Some, None, decimal, Option, sym, refl, ap, ◌∙◌, inl, inr, arith}
 use Rattle.std.specs.Str.Parse.{digits_value}
 use Rattle.std.specs.Str.{all_ascii_digits, bytes_eq}
-use Rattle.std.proofs.lemmas.Bool.{cond-true, cond-false}
+use Rattle.std.proofs.lemmas.Bool.{cond-false, eqb-true}
 use Rattle.std.proofs.lemmas.Fmt.{decimal-digits_value}
 use Rattle.std.proofs.lemmas.Option.{cond_some}
-use Rattle.std.proofs.lemmas.Bool.Decides.{nat_tests, eqb_tells}
+use Rattle.std.proofs.lemmas.Bool.Decides.{nat_tests}
 use Rattle.std.proofs.lemmas.Slice.Eq.{bytes_eq-Decides}
 use Rattle.units.specs.declared.codes.AerodromeCode.{AerodromeCode}
 use Rattle.units.specs.declared.codes.Designator.{Designator}
@@ -29,8 +29,8 @@ number_spelt bytes n e =
     ap decimal (sym c.1) ∙ decimal-digits_value own bytes d.0 d.1 d.3 (omega arith)
 
 type_characters : (bytes : List ℕ) → (leb 2 (length bytes) && leb (length bytes) 4 && characters bytes) ≡ true → type_word (record { bytes = filled bytes }) ≡ bytes
-type_characters [] h = let z : ◌≡◌ {A = ℕ} 0 1 = cc in absurd (omega arith)
-type_characters (a ∷ []) h = let z : ◌≡◌ {A = ℕ} 0 1 = cc in absurd (omega arith)
+type_characters [] h = absurd cc
+type_characters (a ∷ []) h = absurd cc
 type_characters (a ∷ b ∷ []) h = refl
 type_characters (a ∷ b ∷ c ∷ []) h = let s : space c ≡ false = grind (arith, nat_tests) in cond-false _ _ _ s
 type_characters (a ∷ b ∷ c ∷ d ∷ []) h =
@@ -49,28 +49,27 @@ code_spelt bytes code e =
     let c = cond_some _ _ code e in
     ap (λ (k : AerodromeCode). k.bytes) (sym c.1)
 
+-- a test in front of another answer, where the answer is a value
+some_cond : {A : Type 0} (b : Bool) (x y : A) (o : Option A) → cond b (Some x) o ≡ Some y → ((b ≡ true) × (x ≡ y)) ⊎ (o ≡ Some y)
+some_cond true x y o e = inl (refl, cc)
+some_cond false x y o e = inr e
+
 lettered_spelt : (c : ℕ) (k : Kind) → of_letter c ≡ Some k → kind_letter k ≡ c
-lettered_spelt c k e = elim (eqb_tells c (kind_letter Distance)) [
-  | inl p ↦ (let f : Some Distance ≡ Some k = sym (cond-true _ _ _ p.0) ∙ e in
-      let g : Distance ≡ k = cc in ap kind_letter (sym g) ∙ sym p.1)
-  | inr p ↦ elim (eqb_tells c (kind_letter Time)) [
-    | inl q ↦ (let f : Some Time ≡ Some k = sym (cond-true _ _ _ q.0) ∙ sym (cond-false _ _ _ p.0) ∙ e in
-        let g : Time ≡ k = cc in ap kind_letter (sym g) ∙ sym q.1)
-    | inr q ↦ (let f : None ≡ Some k = sym (cond-false _ _ _ q.0) ∙ sym (cond-false _ _ _ p.0) ∙ e in
-        let z : ◌≡◌ {A = ℕ} 0 1 = cc in absurd (omega arith))
-  ]
+lettered_spelt c k e = elim (some_cond (eqb c (kind_letter Distance)) Distance k _ e) [
+  | inl p ↦ ap kind_letter (sym p.1) ∙ sym (eqb-true _ _ p.0)
+  | inr q ↦ let f = cond_some (eqb c (kind_letter Time)) Time k q in ap kind_letter (sym f.1) ∙ sym (eqb-true _ _ f.0)
 ]
 
 pub kind_spelt : (bytes : List ℕ) (k : Kind) → kind_of bytes ≡ Some k → kind_letter k ∷ [] ≡ bytes
-kind_spelt [] k e = let z : ◌≡◌ {A = ℕ} 0 1 = cc in absurd (omega arith)
+kind_spelt [] k e = absurd cc
 kind_spelt (c ∷ []) k e = ap (λ x. x ∷ []) (lettered_spelt c k e)
 kind_spelt (c ∷ d ∷ bytes) k e =
     let long : eqb (length (c ∷ d ∷ bytes)) 1 ≡ false = grind (arith, nat_tests) in
     let f : None ≡ Some k = sym (cond-false _ _ _ long) ∙ e in
-    let z : ◌≡◌ {A = ℕ} 0 1 = cc in absurd (omega arith)
+    absurd cc
 
 some_of_is : (m : Option ℕ) (o : Option ℕ) → some_of m ≡ Some o → (n : ℕ) × (m ≡ Some n) × (o ≡ Some n)
-some_of_is None o e = let z : ◌≡◌ {A = ℕ} 0 1 = cc in absurd (omega arith)
+some_of_is None o e = absurd cc
 some_of_is (Some n) o e = (n, refl, cc)
 
 pub reported_spelt : (bytes : List ℕ) (o : Option ℕ) → reported_of bytes ≡ Some o → reported_word o ≡ bytes
@@ -93,19 +92,16 @@ exempt_spelt (c ∷ d ∷ bytes) x e =
     let some : eqb (length (c ∷ d ∷ bytes)) 0 ≡ false = grind (arith, nat_tests) in
     let long : eqb (length (c ∷ d ∷ bytes)) 1 ≡ false = grind (arith, nat_tests) in
     let f : None ≡ Some x = sym (cond-false _ _ _ long) ∙ sym (cond-false _ _ _ some) ∙ e in
-    let z : ◌≡◌ {A = ℕ} 0 1 = cc in absurd (omega arith)
+    absurd cc
 
-verb_same : (b c d : Bool) (v : Verb) → cond b (Some Add) (cond c (Some Amend) (cond d (Some Delete) None)) ≡ Some v → ((v ≡ Add) × (b ≡ true)) ⊎ (((v ≡ Amend) × (c ≡ true)) ⊎ ((v ≡ Delete) × (d ≡ true)))
-verb_same true c d v e = inl (cc, refl)
-verb_same false true d v e = inr (inl (cc, refl))
-verb_same false false true v e = inr (inr (cc, refl))
-verb_same false false false v e = let z : ◌≡◌ {A = ℕ} 0 1 = cc in absurd (omega arith)
+word_spelt : (bytes : List ℕ) (v w : Verb) → bytes_eq bytes (verb_word v) ≡ true → v ≡ w → verb_word w ≡ bytes
+word_spelt bytes v w h e = ap verb_word (sym e) ∙ sym ((bytes_eq-Decides bytes (verb_word v)).0 h)
 
 pub verb_spelt : (bytes : List ℕ) (v : Verb) → verb bytes ≡ Some v → verb_word v ≡ bytes
-verb_spelt bytes v e = elim (verb_same (bytes_eq bytes (verb_word Add)) (bytes_eq bytes (verb_word Amend)) (bytes_eq bytes (verb_word Delete)) v e) [
-  | inl p ↦ ap verb_word p.0 ∙ sym ((bytes_eq-Decides bytes (verb_word Add)).0 p.1)
-  | inr q ↦ elim q [
-    | inl p ↦ ap verb_word p.0 ∙ sym ((bytes_eq-Decides bytes (verb_word Amend)).0 p.1)
-    | inr p ↦ ap verb_word p.0 ∙ sym ((bytes_eq-Decides bytes (verb_word Delete)).0 p.1)
+verb_spelt bytes v e = elim (some_cond (bytes_eq bytes (verb_word Add)) Add v _ e) [
+  | inl p ↦ word_spelt bytes Add v p.0 p.1
+  | inr q ↦ elim (some_cond (bytes_eq bytes (verb_word Amend)) Amend v _ q) [
+    | inl p ↦ word_spelt bytes Amend v p.0 p.1
+    | inr r ↦ let f = cond_some (bytes_eq bytes (verb_word Delete)) Delete v r in word_spelt bytes Delete v f.0 f.1
   ]
 ]

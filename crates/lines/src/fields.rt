@@ -24,8 +24,8 @@ pub(crate) struct Fields<'a> {
 impl<'a> Fields<'a> {
     ghost use Rattle.lines.specs.Kept.{parts_of};
 
-    // One pass over the line. The law is stated here, where every reading begins, so that what follows is proved of
-    // its own code.
+    // A loop, since one pass both keeps and counts. The law is stated here, where every reading begins, so that what
+    // follows is proved of its own code.
     pub(crate) fn of(line: &'a [u8]) -> Fields<'a>
         ensures first { parts_of result ≡ take 10 (split line.now) }
         ensures count { result.count ≡ length (split line.now) }

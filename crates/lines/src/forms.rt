@@ -48,8 +48,10 @@ impl Spelled for Verb {
 fn is_plain(bytes: &[u8]) -> bool
     ensures { result ≡ plain bytes.now }
 {
-    let n = bytes.len();
-    1 <= n && n <= 9 && (n <= 1 || bytes[0] != b'0') && bytes[0] != b'+'
+    match bytes {
+        [] | [b'+', ..] | [b'0', _, ..] => false,
+        _ => bytes.len() <= 9,
+    }
 }
 
 impl Spelled for u32 {

@@ -1,28 +1,26 @@
 -- The line of an order that is in range reads as that order.
-use Rattle.std.proofs.Common.{◌≡◌, ℕ, ◌+◌, ◌*◌, ◌<◌, ◌≤◌, Bool, true, false, cond, ◌&&◌, ltb, leb, List, [], ◌∷◌, length, get_or, take, drop, is_ok, Some, None, Ok, decimal, Option, Result, sym, refl, ap, ◌∙◌, subst, arith, length-append, length-take}
-use Rattle.std.proofs.lemmas.Bool.{cond-false, cond-true}
+use Rattle.std.proofs.Common.{◌≡◌, ℕ, ◌+◌, ◌*◌, ◌<◌, ◌≤◌, Bool, true, false, cond, ltb, leb, List, [], ◌∷◌, length, get_or, take, drop, is_ok, Some, None, Ok, decimal, Option, sym, refl, ap, ◌∙◌, subst, arith, length-append, length-take}
+use Rattle.std.proofs.lemmas.Bool.{and_from, cond-false, cond-true}
 use Rattle.std.proofs.lemmas.List.{take_at}
 use Rattle.std.proofs.lemmas.Fmt.{length-decimal-le}
 use Rattle.std.proofs.lemmas.Bool.Decides.{nat_tests}
 use Rattle.units.specs.Alphabet.{designator, aerodrome_code, space}
 use Rattle.units.specs.Entries.{within, entry_checked, reference_in_range, flights_in_range, reported_in_range}
 use Rattle.units.specs.Measuring.{limit, kind_letter}
-use Rattle.units.specs.Steps.{then}
 use Rattle.units.specs.declared.codes.Designator.{Designator}
 use Rattle.units.specs.declared.entries.Entry.{Entry}
 use Rattle.units.specs.declared.measures.Kind.{Kind}
 use Rattle.units.specs.declared.measures.Kind.TheVariants.{Distance, Time}
-use Rattle.units.specs.declared.refusals.Refusal.{Refusal}
 use Rattle.units.specs.declared.refusals.Refusal.TheVariants.{BufferShort}
 use Rattle.lines.specs.Fields.{join, comma}
 use Rattle.lines.specs.Forms.{characters, reported_of, reported_word, exempt_word, verb_word, type_word}
 use Rattle.lines.specs.Laws.{ReadsBack, Alone}
-use Rattle.lines.specs.Reading.{asked, entry_in, parts_read, read}
+use Rattle.lines.specs.Reading.{entry_in, parts_read, read}
 use Rattle.lines.specs.Spelling.{entry_words, order_words, line_of, order_checked}
 use Rattle.lines.specs.declared.orders.Order.{Order}
 use Rattle.lines.specs.declared.orders.Order.TheVariants.{Add, Amend, Delete}
 use Rattle.lines.specs.declared.orders.Verb.TheVariants as verbs
-use Rattle.lines.proofs.Inverse.{then_ok, cond_ok}
+use Rattle.lines.proofs.Inverse.{ok_same, then_ok, cond_ok}
 use Rattle.lines.specs.TextAlone.{code_characters}
 use Rattle.writer.specs.Laws.{Unbroken, ReadBack, OneLine}
 use Rattle.writer.specs.Writing.{placed, written, buffer_after}
@@ -41,7 +39,7 @@ record Fits (e : Entry) : Type 0 where
 
 within_ok : (b : Bool) (n : ℕ) (u : Unit {0}) → within b n ≡ Ok u → b ≡ true
 within_ok true n u e = refl
-within_ok false n u e = let z : ◌≡◌ {A = ℕ} 0 1 = cc in absurd (omega arith)
+within_ok false n u e = absurd cc
 
 billion : (n : ℕ) → reference_in_range n ≡ true → n < 1000000000
 billion n h = grind (arith, nat_tests)
@@ -78,9 +76,6 @@ fits e h =
       reported = λ k q. fuel_limit e.flights e.reported k few (within_ok _ _ _ f.2) q;
     }
 
-and_true : {a b : Bool} → a ≡ true → b ≡ true → (a && b) ≡ true
-and_true {a} {b} p q = ap (λ x. x && b) p ∙ q
-
 fuel_characters : (o : Option ℕ) → ((kilograms : ℕ) → o ≡ Some kilograms → kilograms < 1000000000) → characters (reported_word o) ≡ true
 fuel_characters None h = refl
 fuel_characters (Some n) h = let l = h n refl in decimal_characters n (omega arith)
@@ -98,15 +93,15 @@ number_characters n h = decimal_characters n (omega arith)
 
 entry_plain : (e : Entry) → Fits e → plain_words (entry_words e) ≡ true
 entry_plain e f =
-    and_true (number_characters e.reference f.reference)
-    (and_true (type_characters e.designator f.designator)
-    (and_true (code_characters e.departure.bytes f.departure)
-    (and_true (code_characters e.arrival.bytes f.arrival)
-    (and_true (kind_characters e.measure.kind)
-    (and_true (number_characters e.measure.amount f.amount)
-    (and_true (number_characters e.flights f.flights)
-    (and_true (fuel_characters e.reported f.reported)
-    (and_true (exempt_characters e.exempt) refl))))))))
+    and_from _ _ (number_characters e.reference f.reference)
+    (and_from _ _ (type_characters e.designator f.designator)
+    (and_from _ _ (code_characters e.departure.bytes f.departure)
+    (and_from _ _ (code_characters e.arrival.bytes f.arrival)
+    (and_from _ _ (kind_characters e.measure.kind)
+    (and_from _ _ (number_characters e.measure.amount f.amount)
+    (and_from _ _ (number_characters e.flights f.flights)
+    (and_from _ _ (fuel_characters e.reported f.reported)
+    (and_from _ _ (exempt_characters e.exempt) refl))))))))
 
 -- each word with a byte more for its comma
 abbrev lengths : List (List ℕ) → ℕ
@@ -123,27 +118,13 @@ length_join word (next ∷ words) =
 number_short : (n : ℕ) → n < 1000000000 → length (decimal n) ≤ 9
 number_short n h = length-decimal-le 9 n (omega arith) (omega arith) (omega arith)
 
-then_is : {A B : Type 0} (r : Result A Refusal) (next : A → Result B Refusal) (x : A) → r ≡ Ok x → then r next ≡ next x
-then_is r next x e = ap (λ s. then s next) e
-
-asked_is : {A : Type 0} (n : ℕ) (o : Option A) (x : A) → o ≡ Some x → asked n o ≡ Ok x
-asked_is n o x e = ap (asked n) e
-
 fuel_back : (o : Option ℕ) → ((kilograms : ℕ) → o ≡ Some kilograms → kilograms < 1000000000) → reported_of (reported_word o) ≡ Some o
 fuel_back None h = refl
 fuel_back (Some n) h = reported_back n (h n refl)
 
 entry_back : (word : List ℕ) (e : Entry) → Fits e → entry_in (word ∷ entry_words e) ≡ Ok e
 entry_back word e f =
-    then_is _ _ _ (asked_is 2 _ _ (number_back e.reference f.reference)) ∙
-    then_is _ _ _ (asked_is 3 _ _ (type_back e.designator f.designator)) ∙
-    then_is _ _ _ (asked_is 4 _ _ (code_back e.departure f.departure)) ∙
-    then_is _ _ _ (asked_is 5 _ _ (code_back e.arrival f.arrival)) ∙
-    then_is _ _ _ (asked_is 6 _ _ (kind_back e.measure.kind)) ∙
-    then_is _ _ _ (asked_is 7 _ _ (number_back e.measure.amount f.amount)) ∙
-    then_is _ _ _ (asked_is 8 _ _ (number_back e.flights f.flights)) ∙
-    then_is _ _ _ (asked_is 9 _ _ (fuel_back e.reported f.reported)) ∙
-    then_is _ _ _ (asked_is 10 _ _ (exempt_back e.exempt))
+    simp (number_back e.reference f.reference, type_back e.designator f.designator, code_back e.departure f.departure, code_back e.arrival f.arrival, kind_back e.measure.kind, number_back e.measure.amount f.amount, number_back e.flights f.flights, fuel_back e.reported f.reported, exempt_back e.exempt)
 
 type_short : (d : Designator) → designator d.bytes ≡ true → length (type_word d) ≤ 4
 type_short d h =
@@ -189,17 +170,14 @@ reads_back : (o : Order) → ReadsBack o
 unfolding line_of
 reads_back (Add e) h =
     let f = fits e h in
-    plain_line (verb_word verbs.Add) (entry_words e) (Add e) (entry_short (verb_word verbs.Add) e refl f) (entry_plain e f) (then_is _ _ _ (entry_back (verb_word verbs.Add) e f))
+    plain_line (verb_word verbs.Add) (entry_words e) (Add e) (entry_short (verb_word verbs.Add) e refl f) (entry_plain e f) (simp (entry_back (verb_word verbs.Add) e f))
 reads_back (Amend e) h =
     let f = fits e h in
-    plain_line (verb_word verbs.Amend) (entry_words e) (Amend e) (entry_short (verb_word verbs.Amend) e refl f) (entry_plain e f) (then_is _ _ _ (entry_back (verb_word verbs.Amend) e f))
+    plain_line (verb_word verbs.Amend) (entry_words e) (Amend e) (entry_short (verb_word verbs.Amend) e refl f) (entry_plain e f) (simp (entry_back (verb_word verbs.Amend) e f))
 reads_back (Delete n) h =
     let small = billion n (within_ok _ _ _ h) in
     let short : length (join (verb_word verbs.Delete ∷ decimal n ∷ [])) ≤ 80 = omega (arith, length_join (verb_word verbs.Delete) (decimal n ∷ []), number_short n small) in
-    plain_line (verb_word verbs.Delete) (decimal n ∷ []) (Delete n) short (and_true (number_characters n small) refl) (then_is _ _ _ (asked_is 2 _ _ (number_back n small)))
-
-ok_same : {A : Type 0} (x y : A) → ◌≡◌ {A = Result A Refusal} (Ok x) (Ok y) → x ≡ y
-ok_same x y e = cc
+    plain_line (verb_word verbs.Delete) (decimal n ∷ []) (Delete n) short (and_from _ _ (number_characters n small) refl) (simp (number_back n small))
 
 pub alone : (o : Order) → Alone o
 alone o other h k e = ok_same other o (sym (reads_back other k) ∙ ap read e ∙ reads_back o h)
@@ -207,7 +185,7 @@ alone o other h k e = ok_same other o (sym (reads_back other k) ∙ ap read e �
 order_plain : (o : Order) → order_checked o ≡ Ok tt → plain_words (order_words o) ≡ true
 order_plain (Add e) h = entry_plain e (fits e h)
 order_plain (Amend e) h = entry_plain e (fits e h)
-order_plain (Delete n) h = and_true (number_characters n (billion n (within_ok _ _ _ h))) refl
+order_plain (Delete n) h = and_from _ _ (number_characters n (billion n (within_ok _ _ _ h))) refl
 
 unbroken : (o : Order) → order_checked o ≡ Ok tt → Unbroken (line_of o)
 unfolding line_of

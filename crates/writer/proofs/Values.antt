@@ -56,10 +56,10 @@ four_bytes a b c d h = elim (eqb_tells c 32) [
 ]
 
 type_bytes : (bytes : List ℕ) → designator bytes ≡ true → Spells bytes (type_word (record { bytes = bytes }))
-type_bytes [] h = let f : length {A = ℕ} [] ≡ 4 = grind (arith, nat_tests) in absurd (omega arith)
-type_bytes (a ∷ []) h = let f : length (a ∷ []) ≡ 4 = grind (arith, nat_tests) in absurd (omega arith)
-type_bytes (a ∷ b ∷ []) h = let f : length (a ∷ b ∷ []) ≡ 4 = grind (arith, nat_tests) in absurd (omega arith)
-type_bytes (a ∷ b ∷ c ∷ []) h = let f : length (a ∷ b ∷ c ∷ []) ≡ 4 = grind (arith, nat_tests) in absurd (omega arith)
+type_bytes [] h = absurd cc
+type_bytes (a ∷ []) h = absurd cc
+type_bytes (a ∷ b ∷ []) h = absurd cc
+type_bytes (a ∷ b ∷ c ∷ []) h = absurd cc
 type_bytes (a ∷ b ∷ c ∷ d ∷ []) h = four_bytes a b c d h
 type_bytes (a ∷ b ∷ c ∷ d ∷ e ∷ bytes) h = let f : length (a ∷ b ∷ c ∷ d ∷ e ∷ bytes) ≡ 4 = grind (arith, nat_tests) in absurd (omega arith)
 
