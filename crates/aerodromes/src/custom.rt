@@ -1,5 +1,5 @@
 // An aerodrome of the operator's own list and its State.
-ghost use Rattle.std.specs.Prelude.{◌≡◌, [], ◌∷◌};
+ghost use Rattle.std.specs.Prelude.{◌≡◌};
 ghost use Rattle.units.specs.declared.refusals.ListOwner.TheVariants.{OfDirectory};
 ghost use Rattle.aerodromes.specs.Custom.{custom_name, custom_formed, custom_fits};
 
@@ -8,22 +8,10 @@ use units::codes::{AerodromeCode, is_aerodrome_code, is_state};
 use units::refusals::ListOwner;
 
 // A code, well formed or not, and a State, in range or not.
-#[derive(Clone, Copy, Debug, PartialEq, Eq)]
+#[derive(Clone, Copy, Debug, Default, PartialEq, Eq)]
 pub struct CustomAerodrome {
     pub code: AerodromeCode,
     pub state: u16,
-}
-
-// Fills the places of a list that are not used. By hand, since a code, a type of units, has no default.
-impl Default for CustomAerodrome {
-    ghost is_default = { λ a. (a.code.bytes ≡ 0 ∷ 0 ∷ 0 ∷ 0 ∷ []) × (a.state ≡ 0) };
-
-    fn default() -> CustomAerodrome {
-        CustomAerodrome {
-            code: AerodromeCode { bytes: [0; 4] },
-            state: 0,
-        }
-    }
 }
 
 impl Item for CustomAerodrome {

@@ -19,7 +19,7 @@ pub(crate) fn fields_of(line: &[u8]) -> Option<Fields<'_>> {
 
 // A number, or 0, which no list takes.
 pub(crate) fn number(field: &[u8]) -> u32 {
-    read(field).unwrap_or(0)
+    read(field).unwrap_or_default()
 }
 
 // A State's number, or 0, which is no State.
@@ -31,9 +31,9 @@ pub(crate) fn state(field: &[u8]) -> u16 {
 }
 
 pub(crate) fn designator(field: &[u8]) -> Designator {
-    read(field).unwrap_or(Designator { bytes: [0; 4] })
+    read(field).unwrap_or_default()
 }
 
 pub(crate) fn code(field: &[u8]) -> AerodromeCode {
-    read(field).unwrap_or(AerodromeCode { bytes: [0; 4] })
+    read(field).unwrap_or_default()
 }

@@ -1,7 +1,6 @@
 -- The items of the estimators' short lists. Assumes nothing.
-use Rattle.std.specs.Prelude.{ℕ, Bool, false, ◌&&◌, List, [], ◌∷◌, length, is_some, Some, None, Option, Result, nat_le}
+use Rattle.std.specs.Prelude.{ℕ, Bool, false, ◌&&◌, List, length, is_some, Some, None, Option, Result, nat_le}
 use Rattle.units.specs.Alphabet.{designator}
-use Rattle.units.specs.declared.codes.Designator.{Designator}
 use Rattle.units.specs.declared.refusals.ListOwner.TheVariants.{OfEstimator}
 use Rattle.units.specs.declared.refusals.Refusal.{Refusal}
 use Rattle.lists.specs.Listing.{listed, added}
@@ -9,16 +8,6 @@ use Rattle.layers.specs.Equation.{category_of, mass_fits}
 use Rattle.layers.specs.declared.category.Category.{Category}
 use Rattle.layers.specs.declared.items.CustomType.{CustomType}
 use Rattle.layers.specs.declared.items.Equivalent.{Equivalent}
-
--- what fills the places of a list that are not used
-abbrev pub no_type : Designator
-no_type = record { bytes = 0 ∷ 0 ∷ 0 ∷ 0 ∷ [] }
-
-abbrev pub no_equivalent : Equivalent
-no_equivalent = record { designator = no_type; named = no_type; p = 0; q = 0 }
-
-abbrev pub no_custom_type : CustomType
-no_custom_type = record { designator = no_type; category = 0; mass = 0 }
 
 -- an equivalent is found by the type that it stands for
 abbrev pub equivalent_name : Equivalent → List ℕ

@@ -3,13 +3,13 @@ ghost use Rattle.std.specs.Prelude.{◌≡◌};
 ghost use Rattle.units.specs.Alphabet.{character, ending, designator, aerodrome_code, state_number};
 
 // The four bytes of a type designator, well formed or not.
-#[derive(Clone, Copy, Debug, PartialEq, Eq, PartialOrd, Ord)]
+#[derive(Clone, Copy, Debug, Default, PartialEq, Eq, PartialOrd, Ord)]
 pub struct Designator {
     pub bytes: [u8; 4],
 }
 
 // The four bytes of an aerodrome code, well formed or not.
-#[derive(Clone, Copy, Debug, PartialEq, Eq, PartialOrd, Ord)]
+#[derive(Clone, Copy, Debug, Default, PartialEq, Eq, PartialOrd, Ord)]
 pub struct AerodromeCode {
     pub bytes: [u8; 4],
 }
