@@ -1,11 +1,11 @@
 -- Worked figures, as equations of the definitions that the contracts use. Assumes nothing.
-use Rattle.std.specs.Prelude.{◌≡◌, List, [], ◌∷◌, ℕ, get_or}
+use Rattle.std.specs.Prelude.{◌≡◌, List, [], ◌∷◌, ℕ, Ok, Err, get_or}
 use Rattle.units.specs.Amount.{co2}
 use Rattle.units.specs.declared.measures.Kind.TheVariants.{Distance, Time}
 use Rattle.estimators.specs.Laws.{of}
 use Rattle.estimators.specs.Rows.{line}
-use Rattle.estimators.specs.declared.answers.Answer.{Answer}
-use Rattle.estimators.specs.declared.answers.Answer.TheVariants.{Fuel, Beyond}
+use Rattle.estimators.specs.Answers.{Answer}
+use Rattle.estimators.specs.declared.answers.NoEstimate.TheVariants.{Beyond}
 use Rattle.layers.specs.Equation.{equation}
 use Rattle.layers.specs.Equivalence.{scaled}
 use Rattle.layers.specs.declared.category.Category.TheVariants.{HeavyJet, Turboprop}
@@ -22,11 +22,11 @@ abbrev pub gl7t : ℕ → Answer
 gl7t x = line (λ j. get_or columns j 0) (λ j. get_or fuels j 0) 17 x
 
 pub record Figures : Type 0 where
-  pub gl7t_750 : gl7t 750 ≡ Fuel 2002000
+  pub gl7t_750 : gl7t 750 ≡ Ok 2002000
   pub gl7t_750_co2 : co2 2002000 ≡ 632632000
-  pub gl7t_6250 : gl7t 6250 ≡ Fuel 11115250
-  pub gl7t_10001 : gl7t 10001 ≡ Beyond
-  pub third_of_gl7t_750 : scaled 1 3 (gl7t 750) ≡ Fuel 667333
-  pub turboprop_20000_500_km : equation Turboprop 20000 (of Distance 500) ≡ Fuel 900760
-  pub heavy_jet_640000_60_minutes : equation HeavyJet 640000 (of Time 60) ≡ Fuel 0
-  pub heavy_jet_640000_1500_minutes : equation HeavyJet 640000 (of Time 1500) ≡ Beyond
+  pub gl7t_6250 : gl7t 6250 ≡ Ok 11115250
+  pub gl7t_10001 : gl7t 10001 ≡ Err Beyond
+  pub third_of_gl7t_750 : scaled 1 3 (gl7t 750) ≡ Ok 667333
+  pub turboprop_20000_500_km : equation Turboprop 20000 (of Distance 500) ≡ Ok 900760
+  pub heavy_jet_640000_60_minutes : equation HeavyJet 640000 (of Time 60) ≡ Ok 0
+  pub heavy_jet_640000_1500_minutes : equation HeavyJet 640000 (of Time 1500) ≡ Err Beyond
