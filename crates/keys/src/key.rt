@@ -21,8 +21,7 @@ pub trait Key: Copy {
     fn blank() -> Self
         ensures { result ≡ zero };
 
-    // What `cmp` answers, and that both keys are sized. Not `cmp` itself: of keys that are not sized it is no order of
-    // digits, and the contract of `cmp` cannot say that they are.
+    // What `cmp` answers, and that both keys are sized: no contract of `cmp` says that, and a law would need it.
     fn compare(&self, other: &Self) -> Ordering
         ensures is { result ≡ compared (digits self.now) (digits other.now) }
         ensures sized { sized self.now × sized other.now };

@@ -22,11 +22,7 @@ apart xs ys e h = both_ways (earlier xs ys) (ap (earlier xs) (sym e) ∙ same_no
 
 module _ {R : Type 0} (digits : R → List ℕ) (blank : R) (rs : List R) (k : List ℕ) where
   not_free : (i p : ℕ) → Told digits blank rs k (Ok i) → Between digits blank rs k p → ⊥
-  not_free i p found between =
-      ⊎_elim
-      (λ lt. apart (digits (get_or rs i blank)) k found.1 (between.before i lt))
-      (λ le. apart k (digits (get_or rs i blank)) (sym found.1) (between.after i le found.0))
-      (cases_lt i p)
+  not_free i p found between = grind (arith, cases_lt i p, apart (digits (get_or rs i blank)) k, apart k (digits (get_or rs i blank)), found.0, found.1, between.before i, between.after i)
 
   not_before : (p q : ℕ) → Between digits blank rs k p → Between digits blank rs k q → p < q → ⊥
   not_before p q a b lt =
@@ -36,15 +32,12 @@ module _ {R : Type 0} (digits : R → List ℕ) (blank : R) (rs : List R) (k : L
   -- the records and the key fix the place
   pub told_once : Rising digits blank rs → (a b : Result ℕ ℕ) → Told digits blank rs k a → Told digits blank rs k b → a ≡ b
   told_once rising (Ok i) (Ok j) x y =
-      ⊎_elim (ap Ok)
-      (⊎_elim
-      (λ lt. absurd (apart _ _ (x.1 ∙ sym y.1) (rising i j lt y.0)))
-      (λ gt. absurd (apart _ _ (y.1 ∙ sym x.1) (rising j i gt x.0))))
-      (cases_order i j)
+      let key = λ (m : ℕ). digits (get_or rs m blank) in
+      grind (arith, cases_order i j, x.0, x.1, y.0, y.1, rising i j, rising j i, apart (key i) (key j), apart (key j) (key i))
   told_once rising (Ok i) (Err q) x y = absurd (not_free i q x y)
   told_once rising (Err p) (Ok j) x y = absurd (not_free j p y x)
   told_once rising (Err p) (Err q) x y =
-      ⊎_elim (ap Err) (⊎_elim (λ lt. absurd (not_before p q x y lt)) (λ gt. absurd (not_before q p y x gt))) (cases_order p q)
+      grind (arith, cases_order p q, not_before p q x y, not_before q p y x)
 
   -- what a place says of the records without the one at p
   module _ (p : ℕ) (inside : p < length rs) (rising : Rising digits blank rs) where

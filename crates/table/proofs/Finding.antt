@@ -24,10 +24,7 @@ module _ {R : Type 0} (digits : R → List ℕ) (blank : R) (rs : List R) (k : L
   narrowed_up low high m lt before n = record {
     forward = omega arith;
     within = n.within;
-    below = λ i l. ⊎_elim
-        (λ here. ap (λ j. earlier (key_of j) k) here ∙ before)
-        (λ other. earlier_trans (key_of i) (key_of m) k (rising i m (omega arith) (omega (arith, n.within))) before)
-        (cases_eq i m);
+    below = λ i l. grind (arith, cases_eq i m, n.within, rising i m, earlier_trans (key_of i) (key_of m) k);
     above = n.above;
   }
 
@@ -36,10 +33,7 @@ module _ {R : Type 0} (digits : R → List ℕ) (blank : R) (rs : List R) (k : L
     forward = le;
     within = omega (arith, n.within);
     below = n.below;
-    above = λ i l h. ⊎_elim
-        (λ here. ap (λ j. earlier k (key_of j)) here ∙ after)
-        (λ other. earlier_trans k (key_of m) (key_of i) after (rising m i (omega arith) h))
-        (cases_eq i m);
+    above = λ i l h. grind (arith, cases_eq i m, rising m i, earlier_trans k (key_of m) (key_of i));
   }
 
   narrowed_none : (low high : ℕ) → high ≤ low → Narrowed low high → Between digits blank rs k low

@@ -1,10 +1,10 @@
 -- Changes keep a table in order. Assumes nothing.
-use Rattle.std.proofs.Common.{Err, ◌≡◌, ℕ, suc, ◌+◌, ◌-◌, ◌<◌, ◌≤◌, List, ◌∷◌, ◌++◌, length, get_or, take, drop, set, replicate, sym, ap, ◌∙◌, subst, arith}
+use Rattle.std.proofs.Common.{Err, ◌≡◌, ℕ, suc, ◌+◌, ◌-◌, ◌<◌, ◌≤◌, List, ◌∷◌, ◌++◌, length, get_or, take, drop, set, replicate, sym, ap, ◌∙◌, subst, arith, rules}
 use lib.Seq.{take-set-lt}
 use lib.ListN.{length-replicate}
 use Rattle.std.specs.List.{insert, remove}
 use Rattle.std.proofs.lemmas.List.Edits.{length-insert, length-remove}
-use Rattle.std.proofs.lemmas.List.{places, length-take, length-take-le, length-set, get_or-take, get_or-set_same, get_or-set_other, take-append-drop, drop-drop, drop-set-lt, drop-replicate}
+use Rattle.std.proofs.lemmas.List.{places, same_lists, get_or-replicate, length-take, length-take-le, length-set, get_or-take, get_or-set_same, get_or-set_other, drop-set-lt}
 use Rattle.std.proofs.lemmas.Bool.{cases_lt, cases_eq, cases_order}
 use Rattle.units.specs.Order.{earlier}
 use Rattle.table.specs.Changing.{used, put_in, taken_out}
@@ -41,10 +41,6 @@ module _ {R : Type 0} (digits : R → List ℕ) (blank : R) where
       let long = length-set rs p r in
       (λ m. earlier (kept_key rs p r inside alike i m) (kept_key rs p r inside alike j m)) ∙ rising i j lt (omega arith)
 
-  -- the rest, further on
-  rest_on : (xs : List R) (n m : ℕ) → drop n xs ≡ replicate (length xs - n) blank → drop (n + m) xs ≡ replicate (length xs - n - m) blank
-  rest_on xs n m rest = sym (drop-drop m n xs) ∙ ap (drop m) rest ∙ drop-replicate m (length xs - n) blank
-
   module _ (xs : List R) (n p : ℕ) (ordered : Ordered digits blank xs n) where
     long : length (take n xs) ≡ n
     long = length-take-le n xs ordered.within
@@ -52,6 +48,10 @@ module _ {R : Type 0} (digits : R → List ℕ) (blank : R) where
     -- a free place lies between earlier and later keys
     pub free_between : (k : List ℕ) → located digits blank xs n k ≡ Err p → Between digits blank (take n xs) k p
     free_between k free = subst (Told digits blank (take n xs) k) free (located_tells digits blank xs n k ordered.rising)
+
+    -- past the records are blank ones
+    blank_at : (i : ℕ) (d : R) → n ≤ i → i < length xs → get_or xs i d ≡ blank
+    blank_at i d le lt = let e = ap (λ l. get_or l (i - n) d) ordered.rest in grind (arith, places, get_or-replicate, e)
 
     pub insert_keeps : (r : R) → n < length xs → located digits blank xs n (digits r) ≡ Err p → Ordered digits blank (put_in xs n p r) (n + 1)
     insert_keeps r lt free =
@@ -61,7 +61,7 @@ module _ {R : Type 0} (digits : R → List ℕ) (blank : R) where
         record {
           within = omega arith;
           rising = subst (Rising digits blank) (sym (put_in_inserted xs n p r le lt)) (inserted_rises (take n xs) p r ordered.rising between);
-          rest = put_in_rest xs n p r le lt ∙ rest_on xs n 1 ordered.rest ∙ ap (λ m. replicate m blank) (omega arith);
+          rest = same_lists _ _ (search (rules, places)) (λ i d h. grind (arith, places, get_or-replicate, blank_at (n + 1 + i) d));
         }
 
     pub remove_keeps : p < n → Ordered digits blank (taken_out blank xs n p) (n - 1)
@@ -86,13 +86,9 @@ module _ {R : Type 0} (digits : R → List ℕ) (blank : R) where
     -- put in and taken out at the same place, every place of the slice is as it was
     pub remove_undoes : (r : R) → p ≤ n → n < length xs → taken_out blank (put_in xs n p r) (n + 1) p ≡ xs
     remove_undoes r le lt =
-        let inside : p ≤ length (take n xs) = omega (arith, long) in
-        let left : length xs - n ≡ suc (length xs - n - 1) = omega arith in
-        let rest : blank ∷ drop (n + 1) xs ≡ drop n xs =
-        ap (λ l. blank ∷ l) (rest_on xs n 1 ordered.rest) ∙ sym (ordered.rest ∙ ap (λ m. replicate m blank) left) in
         (λ i. remove (put_in_inserted xs n p r le lt i) p ++ blank ∷ put_in_rest xs n p r le lt i)
-        ∙ (λ i. removed_inserted (take n xs) p r inside i ++ rest i)
-        ∙ take-append-drop n xs
+        ∙ ap (λ l. l ++ blank ∷ drop (n + 1) xs) (removed_inserted (take n xs) p r (omega (arith, long)))
+        ∙ same_lists (take n xs ++ blank ∷ drop (n + 1) xs) xs (search (rules, places)) (λ i d h. grind (arith, places, cases_order i n, blank_at i d))
 
   -- what each change promises, of a slice ys that is what it leaves
   module _ (xs : List R) (n p : ℕ) (ys : List R) where

@@ -16,8 +16,8 @@ pub(crate) fn used<R>(slots: &[R], count: usize) -> usize
     count.min(slots.len())
 }
 
-// Halves the places that may still hold the key, with one comparison each time. By hand, since the place is told of
-// records out of order too, and `binary_search_by` says nothing of those.
+// Halves the places that may still hold the key, with one comparison each time.
+// By hand, since the place is told of records out of order too, of which `binary_search_by` says nothing.
 fn halve<R: Record>(records: &[R], key: R::Key) -> Result<usize, usize>
     ensures is { result ≡ searched (λ x. R.Key.Key.digits (R.keyed x)) R.unused records.now (R.Key.Key.digits key) }
     ensures found { (i : ℕ) → result ≡ Ok i → (i < length records.now) × (R.keyed (slice_index_or records.now i R.unused) ≡ key) }
