@@ -3,7 +3,7 @@ ghost use Rattle.std.specs.Prelude.{◌≡◌, ◌≤◌, length, take};
 ghost use Rattle.std.specs.Option.{ok_or};
 ghost use Rattle.units.specs.declared.refusals.Refusal.TheVariants.{LineVerb};
 ghost use Rattle.lines.specs.Fields.{split, part};
-ghost use Rattle.lines.specs.Forms.{verb as verb_of};
+ghost use Rattle.lines.specs.Forms.{verb};
 ghost use Rattle.lines.specs.Laws.{SpeltAgain};
 ghost use Rattle.lines.specs.Reading.{asked, parts_read};
 ghost use Rattle.lines.specs.Tokens.{Stands};
@@ -61,7 +61,7 @@ impl<'a> Fields<'a> {
     }
 
     pub(crate) fn verb(&self) -> Result<Verb, Refusal>
-        ensures { result ≡ ok_or (verb_of (part 1 (parts_of self.now))) LineVerb }
+        ensures { result ≡ ok_or (verb (part 1 (parts_of self.now))) LineVerb }
     {
         self.token(1).value().ok_or(Refusal::LineVerb)
     }

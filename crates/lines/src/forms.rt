@@ -1,6 +1,6 @@
 // What a field spells, by its form alone.
 ghost use Rattle.std.specs.Prelude.{◌≡◌, ◌≤◌, ℕ, List, length, Option};
-ghost use Rattle.lines.specs.Forms.{verb as verb_of, number as number_of_lem, plain, characters, filled as filled_up, type_of, code_of, kind_of, reported_of, marked, exempt_of};
+ghost use Rattle.lines.specs.Forms.{verb, number, plain, characters, filled as filled_up, type_of, code_of, kind_of, reported_of, marked, exempt_of};
 ghost use Rattle.lines.specs.TextAlone.{TextAlone, verb_text, number_text, type_text, code_text, kind_text, reported_text, exempt_text};
 
 use crate::orders::Verb;
@@ -23,14 +23,11 @@ pub trait Spelled: Sized {
 pub fn read<T: Spelled>(field: &[u8]) -> Option<T>
     ensures { result ≡ T.spelt field.now }
 {
-    match from_utf8(field) {
-        Ok(text) => T::read(text),
-        Err(_) => None,
-    }
+    T::read(from_utf8(field).ok()?)
 }
 
 impl Spelled for Verb {
-    ghost spelt = { verb_of };
+    ghost spelt = { verb };
 
     ghost text_alone = { verb_text };
 
@@ -55,7 +52,7 @@ fn is_plain(bytes: &[u8]) -> bool
 }
 
 impl Spelled for u32 {
-    ghost spelt = { number_of_lem };
+    ghost spelt = { number };
 
     ghost text_alone = { number_text };
 
