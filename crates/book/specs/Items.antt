@@ -7,7 +7,7 @@ use Rattle.units.specs.Order.{earlier}
 use Rattle.units.specs.Places.{first}
 use Rattle.units.specs.declared.measures.Kind.{Kind}
 use Rattle.units.specs.declared.measures.Kind.TheVariants.{Distance, Time}
-use Rattle.units.specs.declared.measures.UnknownNumber.{UnknownNumber}
+use Rattle.units.specs.declared.measures.Unknown.{Unknown}
 use Rattle.book.specs.declared.format.Tier.{Tier}
 use Rattle.book.specs.declared.format.Tier.TheVariants.{Operators, Equivalent, Formula}
 use Rattle.book.specs.Bytes.{u16_at, u32_at, items, front}
@@ -33,8 +33,8 @@ tier_of n =
     (cond (n == tier_number Equivalent) (Some Equivalent) (cond (n == tier_number Formula) (Some Formula) None))
 
 -- the same, where a number of no tier is handed back
-abbrev pub tier_numbered : ℕ → Result Tier UnknownNumber
-tier_numbered n = ok_or (tier_of n) (record { number = n })
+abbrev pub tier_numbered : ℕ → Result Tier (Unknown ℕ)
+tier_numbered n = ok_or (tier_of n) (record { given = n })
 
 -- an item that does not stand after the one before it, by the first k of its w bytes
 abbrev pub out_of_order : ℕ → ℕ → List ℕ → ℕ → Bool

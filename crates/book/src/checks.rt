@@ -2,7 +2,7 @@
 ghost use Rattle.std.specs.Prelude.{◌≡◌, ◌+◌, ◌*◌, ◌<◌, ◌≤◌, length, is_some};
 ghost use Rattle.units.specs.Places.{first};
 ghost use Rattle.book.specs.Bytes.{items};
-ghost use Rattle.book.specs.Check.{columns_checked, row_bad, rows_checked, aerodrome_bad, aerodromes_checked, marks_checked, items_checked, hold, checked};
+ghost use Rattle.book.specs.Check.{columns_checked, row_bad, rows_checked, aerodrome_bad, aerodromes_checked, marks_checked, items_checked, checked};
 ghost use Rattle.book.specs.Items.{column, column_wrong, columns_for, fuel as fuel_of, fuel_wrong, row_wrong, aerodrome_wrong, count_wrong};
 ghost use Rattle.book.specs.Parts.{sections};
 ghost use Rattle.book.specs.Sections.{header as header_of, header_good, columns_good, offsets_good};
@@ -11,7 +11,7 @@ use crate::bytes::{items as items_in, u16_at, u32_at};
 use crate::format::{Header, Parts, Tier, cut};
 use units::codes::{is_aerodrome_code, is_designator, is_state};
 use units::measures::Kind;
-use units::refusals::Refusal;
+use units::refusals::{Refusal, hold};
 
 // How many columns each kind has.
 #[derive(Clone, Copy)]
@@ -215,12 +215,6 @@ fn offsets_are_good(bytes: &[u8], header: Header) -> bool
         && u32_at(bytes, 28) as usize == starts.marks
         && u32_at(bytes, 32) as usize == starts.end
         && bytes.len() == starts.end
-}
-
-fn hold(good: bool, refusal: Refusal) -> Result<(), Refusal>
-    ensures { result ≡ hold good refusal }
-{
-    if good { Ok(()) } else { Err(refusal) }
 }
 
 // The first check that the bytes fail, or the header of the book that they spell.

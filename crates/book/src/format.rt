@@ -5,7 +5,7 @@ ghost use Rattle.book.specs.Sections.{book_end, starts as starts_of, cut as sect
 ghost use Rattle.book.specs.Parts.{sections};
 
 use units::codes::{AerodromeCode, Designator};
-use units::measures::{Kind, UnknownNumber};
+use units::measures::{Kind, Unknown};
 
 // The year of a book and how many items its sections have.
 #[derive(Clone, Copy, Debug, PartialEq, Eq)]
@@ -40,7 +40,8 @@ pub struct Aerodrome {
     pub state: u16,
 }
 
-// The five sections, as parts of the book's bytes, which the definitions speak of; `items` cuts them where they are read.
+// The five sections, as parts of the book's bytes, which the definitions speak of. Not as items: the proof of a function
+// that reads a field is not told how many bytes an item in it has. `items` cuts them where they are read.
 #[derive(Clone, Copy)]
 pub struct Parts<'a> {
     pub(crate) distances: &'a [u8],
@@ -61,18 +62,16 @@ pub(crate) struct Starts {
 }
 
 impl TryFrom<u8> for Tier {
-    type Error = UnknownNumber;
+    type Error = Unknown<u8>;
 
     ghost try_from_gives = { λ number tier. tier ≡ tier_numbered number };
 
-    fn try_from(number: u8) -> Result<Tier, UnknownNumber> {
+    fn try_from(number: u8) -> Result<Tier, Unknown<u8>> {
         match number {
             1 => Ok(Tier::Operators),
             2 => Ok(Tier::Equivalent),
             3 => Ok(Tier::Formula),
-            _ => Err(UnknownNumber {
-                number: number as u32,
-            }),
+            _ => Err(Unknown { given: number }),
         }
     }
 }

@@ -66,47 +66,36 @@ fn custom_aerodromes_are_checked_in_order(rt: HostRuntime) {
     assert_eq!(rt; named(directory.add(custom(b"cccc", 0))), Err(('D', 8)));
 }
 
+fn prefix(of: &[u8; 2], state: u16) -> Prefix {
+    let [first, second] = *of;
+    Prefix {
+        first,
+        second,
+        state,
+    }
+}
+
 #[test]
 fn prefixes_are_the_first_two_characters(rt: HostRuntime) {
     let mut prefixes = Prefixes::new();
     assert_eq!(rt;
-        named(prefixes.add(Prefix {
-            first: b'E',
-            second: b'G',
-            state: 9,
-        })),
+        named(prefixes.add(prefix(b"EG", 9))),
         Ok(())
     );
     assert_eq!(rt;
-        named(prefixes.add(Prefix {
-            first: b'E',
-            second: b'G',
-            state: 8,
-        })),
+        named(prefixes.add(prefix(b"EG", 8))),
         Err(('D', 10))
     );
     assert_eq!(rt;
-        named(prefixes.add(Prefix {
-            first: b'e',
-            second: b'G',
-            state: 8,
-        })),
+        named(prefixes.add(prefix(b"eG", 8))),
         Err(('D', 9))
     );
     assert_eq!(rt;
-        named(prefixes.add(Prefix {
-            first: b'E',
-            second: b' ',
-            state: 8,
-        })),
+        named(prefixes.add(prefix(b"E ", 8))),
         Err(('D', 9))
     );
     assert_eq!(rt;
-        named(prefixes.add(Prefix {
-            first: b'E',
-            second: b'H',
-            state: 0,
-        })),
+        named(prefixes.add(prefix(b"EH", 0))),
         Err(('D', 11))
     );
     assert_eq!(rt;
@@ -131,11 +120,7 @@ fn the_prefix_list_has_256_places(rt: HostRuntime) {
         assert_eq!(rt; named(prefixes.add(item)), Ok(()));
     }
     assert_eq!(rt;
-        named(prefixes.add(Prefix {
-            first: b'0',
-            second: b'0',
-            state: 1,
-        })),
+        named(prefixes.add(prefix(b"00", 1))),
         Err(('D', 8))
     );
     assert_eq!(rt; state(&prefixes, b"PPAA"), Some(1));

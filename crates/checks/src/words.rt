@@ -87,19 +87,19 @@ fn co2_is_316_times_the_fuel(rt: HostRuntime) {
 }
 
 // The letter, number and place of a refusal.
-fn told(refusal: Refusal) -> (char, u32, usize) {
+fn named(refusal: Refusal) -> (char, u32, usize) {
     let fault = Fault::from(refusal);
     (char::from(fault.layer), fault.number, fault.place)
 }
 
 #[test]
 fn refusals_have_their_names(rt: HostRuntime) {
-    assert_eq!(rt; told(Refusal::BookRow(7)), ('B', 5, 7));
+    assert_eq!(rt; named(Refusal::BookRow(7)), ('B', 5, 7));
     assert_eq!(rt;
-        told(Refusal::ListFull(ListOwner::OfDirectory)),
+        named(Refusal::ListFull(ListOwner::OfDirectory)),
         ('D', 8, 0)
     );
-    assert_eq!(rt; told(Refusal::BeyondModel), ('E', 23, 7));
-    assert_eq!(rt; told(Refusal::OutOfRange(3)), ('L', 18, 3));
-    assert_eq!(rt; told(Refusal::OpenQuery), ('T', 33, 0));
+    assert_eq!(rt; named(Refusal::BeyondModel), ('E', 23, 7));
+    assert_eq!(rt; named(Refusal::OutOfRange(3)), ('L', 18, 3));
+    assert_eq!(rt; named(Refusal::OpenQuery), ('T', 33, 0));
 }

@@ -140,6 +140,11 @@ fn refusals_in_their_order(rt: HostRuntime) {
         }),
         Err((21, 5))
     );
+}
+
+#[test]
+fn refusals_without_an_estimate(rt: HostRuntime) {
+    let unknown = Designator { bytes: *b"C525" };
     assert_eq!(rt;
         work(Entry {
             designator: unknown,

@@ -1,5 +1,5 @@
 // The estimator and the directories that are asked, and the answer to one line.
-use crate::fields::{code, designator, fields_of, number, state};
+use crate::fields::{fields_of, state, value};
 use aerodromes::custom::CustomAerodrome;
 use aerodromes::custom_list::CustomAerodromes;
 use aerodromes::directory::Directory;
@@ -35,13 +35,13 @@ impl fmt::Display for Reply {
         match self {
             Reply::Done => f.write_str("ok"),
             Reply::Fuel(grams) => write!(f, "{} {}", grams, co2(*grams)),
-            Reply::State(number) => write!(f, "{}", number),
+            Reply::State(number) => write!(f, "{number}"),
         }
     }
 }
 
 fn found<D: Directory>(directory: &D, name: &[u8]) -> Result<Reply, Refusal> {
-    aerodrome_state(directory, code(name)).map(Reply::State)
+    aerodrome_state(directory, value(name)).map(Reply::State)
 }
 
 impl<'a> Desk<'a> {
@@ -55,7 +55,7 @@ impl<'a> Desk<'a> {
     }
 
     fn ask(&self, name: &[u8], kind: &[u8], amount: &[u8]) -> Result<Reply, Refusal> {
-        flight_fuel(&self.estimator, designator(name), read(kind), read(amount)).map(Reply::Fuel)
+        flight_fuel(&self.estimator, value(name), read(kind), read(amount)).map(Reply::Fuel)
     }
 
     // The answer to one line; none where it is no question.
@@ -66,19 +66,19 @@ impl<'a> Desk<'a> {
             [b"FND", name] => return Some(found(&self.aerodromes, name)),
             [b"PFX", name] => return Some(found(&self.prefixes, name)),
             [b"EQV", name, named, p, q] => self.estimator.add_equivalent(Equivalent {
-                designator: designator(name),
-                named: designator(named),
-                p: number(p),
-                q: number(q),
+                designator: value(name),
+                named: value(named),
+                p: value(p),
+                q: value(q),
             }),
             [b"CUS", name, category, mass] => self.estimator.add(CustomType {
-                designator: designator(name),
-                category: number(category),
-                mass: number(mass),
+                designator: value(name),
+                category: value(category),
+                mass: value(mass),
             }),
             [b"PRE", prefix, of] => self.add_prefix(prefix, of),
             [b"AER", name, of] => self.aerodromes.add(CustomAerodrome {
-                code: code(name),
+                code: value(name),
                 state: state(of),
             }),
             _ => return None,
@@ -87,10 +87,7 @@ impl<'a> Desk<'a> {
     }
 
     fn add_prefix(&mut self, prefix: &[u8], of: &[u8]) -> Result<(), Refusal> {
-        let (first, second) = match prefix {
-            [first, second] => (*first, *second),
-            _ => (0, 0),
-        };
+        let [first, second] = <[u8; 2]>::try_from(prefix).unwrap_or_default();
         self.prefixes.add(Prefix {
             first,
             second,

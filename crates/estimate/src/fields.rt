@@ -1,7 +1,6 @@
-// The fields of a line of questions, between commas. What is malformed is given on as a value that no list takes.
+// The fields of a line of questions, between commas.
 use arrayvec::ArrayVec;
-use lines::forms::read;
-use units::codes::{AerodromeCode, Designator};
+use lines::forms::{Spelled, read};
 
 // The most fields of a question.
 const MOST_FIELDS: usize = 5;
@@ -17,23 +16,13 @@ pub(crate) fn fields_of(line: &[u8]) -> Option<Fields<'_>> {
     Some(fields)
 }
 
-// A number, or 0, which no list takes.
-pub(crate) fn number(field: &[u8]) -> u32 {
+// What a field spells. Where it spells nothing the default, so that the list that is asked names what is wrong with it, in
+// the order of its checks.
+pub(crate) fn value<T: Spelled + Default + Drop>(field: &[u8]) -> T {
     read(field).unwrap_or_default()
 }
 
 // A State's number, or 0, which is no State.
 pub(crate) fn state(field: &[u8]) -> u16 {
-    match read::<u32>(field) {
-        Some(number @ 0..=193) => number as u16,
-        _ => 0,
-    }
-}
-
-pub(crate) fn designator(field: &[u8]) -> Designator {
-    read(field).unwrap_or_default()
-}
-
-pub(crate) fn code(field: &[u8]) -> AerodromeCode {
-    read(field).unwrap_or_default()
+    u16::try_from(value::<u32>(field)).unwrap_or_default()
 }

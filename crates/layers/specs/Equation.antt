@@ -5,7 +5,7 @@ use Rattle.units.specs.Amount.{nearest}
 use Rattle.units.specs.Measuring.{kind_number}
 use Rattle.units.specs.declared.measures.Kind.{Kind}
 use Rattle.units.specs.declared.measures.Measure.{Measure}
-use Rattle.units.specs.declared.measures.UnknownNumber.{UnknownNumber}
+use Rattle.units.specs.declared.measures.Unknown.{Unknown}
 use Rattle.estimators.specs.Answers.{Answer}
 use Rattle.layers.specs.Above.{capped}
 use Rattle.layers.specs.declared.category.Category.{Category}
@@ -25,8 +25,8 @@ category_of n =
     (cond (n == category_number LightJet) (Some LightJet) (cond (n == category_number Turboprop) (Some Turboprop) None)))
 
 -- the same, where a number of no category is handed back
-abbrev pub categorised : ℕ → Result Category UnknownNumber
-categorised n = ok_or (category_of n) (record { number = n })
+abbrev pub categorised : ℕ → Result Category (Unknown ℕ)
+categorised n = ok_or (category_of n) (record { given = n })
 
 -- the average take-off masses of each category, in kilograms
 abbrev pub mass_fits : Category → ℕ → Bool

@@ -6,7 +6,7 @@ ghost use Rattle.layers.specs.Above.{capped as at_most};
 use crate::layer::capped;
 use estimators::answers::{Answer, NoEstimate};
 use units::amounts::nearest;
-use units::measures::{Kind, Measure, UnknownNumber};
+use units::measures::{Kind, Measure, Unknown};
 
 #[derive(Clone, Copy, Debug, PartialEq, Eq)]
 pub enum Category {
@@ -67,17 +67,17 @@ impl From<Category> for u8 {
 }
 
 impl TryFrom<u32> for Category {
-    type Error = UnknownNumber;
+    type Error = Unknown<u32>;
 
     ghost try_from_gives = { λ number category. category ≡ categorised number };
 
-    fn try_from(number: u32) -> Result<Category, UnknownNumber> {
+    fn try_from(number: u32) -> Result<Category, Unknown<u32>> {
         match number {
             1 => Ok(Category::HeavyJet),
             2 => Ok(Category::Jet),
             3 => Ok(Category::LightJet),
             4 => Ok(Category::Turboprop),
-            _ => Err(UnknownNumber { number }),
+            _ => Err(Unknown { given: number }),
         }
     }
 }
@@ -117,14 +117,14 @@ fn linear(a: i128, b: i128, x: u32) -> i128
 
 // The equation's value, in units of 10^-10 kg.
 #[tactic(auto, unfolding(crate::specs::Equation::value))]
-fn value_of(kind: Kind, category: Category, mass: u32, amount: u32) -> i128
-    ensures { result ≡ value kind category mass amount }
+fn value_of(category: Category, mass: u32, measure: Measure) -> i128
+    ensures { result ≡ value measure.kind category mass measure.amount }
 {
-    let a = coefficient(kind, category, 0);
-    let b = coefficient(kind, category, 1);
-    let c = coefficient(kind, category, 2);
-    let d = coefficient(kind, category, 3);
-    linear(linear(a, b, mass), linear(c, d, mass), amount)
+    let a = coefficient(measure.kind, category, 0);
+    let b = coefficient(measure.kind, category, 1);
+    let c = coefficient(measure.kind, category, 2);
+    let d = coefficient(measure.kind, category, 3);
+    linear(linear(a, b, mass), linear(c, d, mass), measure.amount)
 }
 
 // The answer at a value: below 0 it counts as 0, else it is taken to the nearest gram.
@@ -140,5 +140,5 @@ fn answer_at(value: i128) -> Answer
 pub(crate) fn by_category(category: Category, mass: u32, measure: Measure) -> Answer
     ensures { result ≡ equation category mass measure }
 {
-    answer_at(value_of(measure.kind, category, mass, measure.amount))
+    answer_at(value_of(category, mass, measure))
 }

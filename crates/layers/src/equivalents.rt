@@ -71,6 +71,7 @@ impl<E: Estimator> Estimator for Layer<E, Equivalent> {
         ensures limited { within_limit result ≡ true }
         ensures known_below { known (E.Estimator.meaning self.now.below designator measure) ≡ true → result ≡ E.Estimator.meaning self.now.below designator measure }
     {
+        // The same in both kinds of layer: a helper would take what follows as a closure and be no shorter.
         let own = self.below.ask(designator, measure);
         if is_known(own) {
             return own;

@@ -5,6 +5,7 @@ ghost use Rattle.lines.specs.Tokens.{Sound, Stands, token_number, token_bytes};
 use crate::forms::Spelled;
 use std::str::from_utf8;
 
+// Three cases, each with its number: a form that docs/DECISIONS.md wants.
 #[derive(Clone, Copy)]
 pub(crate) enum Token<'a> {
     Empty(usize),

@@ -18,7 +18,7 @@ impl<T: Item, const N: usize> ShortList<T, N> {
     ghost use Rattle.lists.specs.Entries.{entries};
     ghost use Rattle.lists.specs.Listing.{listed, added, after_adding};
 
-    // An empty list.
+    // An empty list. Places that are not used hold the default, with which the kit's vector fills them.
     pub fn new() -> ShortList<T, N>
     where
         T: Default,

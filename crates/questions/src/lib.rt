@@ -9,7 +9,7 @@ use aerodromes::directory::Directory;
 use estimators::asking::Estimator;
 use units::codes::{AerodromeCode, Designator, is_aerodrome_code, is_designator};
 use units::measures::{Kind, Measure};
-use units::refusals::Refusal;
+use units::refusals::{Refusal, hold};
 
 // The fuel of one flight in grams; a kind or an amount that could not be read is given as none.
 pub fn flight_fuel<E: Estimator>(
@@ -21,15 +21,11 @@ pub fn flight_fuel<E: Estimator>(
     ensures is { result ≡ fuel_asked (E.Estimator.meaning estimator.now) designator kind amount }
     ensures limited { IfOk result (λ grams. grams ≤ fuel_limit) }
 {
-    if !is_designator(&designator.bytes) {
-        return Err(Refusal::OutOfRange(3));
-    }
+    hold(is_designator(&designator.bytes), Refusal::OutOfRange(3))?;
     let kind = kind.ok_or(Refusal::OutOfRange(6))?;
     let amount = amount.ok_or(Refusal::OutOfRange(7))?;
     let measure = Measure { kind, amount };
-    if !measure.is_in_range() {
-        return Err(Refusal::OutOfRange(7));
-    }
+    hold(measure.is_in_range(), Refusal::OutOfRange(7))?;
     Ok(estimator.ask(designator, measure)?)
 }
 
@@ -37,8 +33,6 @@ pub fn flight_fuel<E: Estimator>(
 pub fn aerodrome_state<D: Directory>(directory: &D, code: AerodromeCode) -> Result<u16, Refusal>
     ensures { result ≡ state_asked (D.Directory.meaning directory.now) code }
 {
-    if !is_aerodrome_code(&code.bytes) {
-        return Err(Refusal::OutOfRange(4));
-    }
+    hold(is_aerodrome_code(&code.bytes), Refusal::OutOfRange(4))?;
     directory.state_of(code).ok_or(Refusal::DepartureUnknown)
 }

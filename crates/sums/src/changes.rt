@@ -20,7 +20,7 @@ pub enum Change<K: Key> {
 
 // Rows that are only read come with their count: a `Table` of both asks for the loan of a `&mut` slice, and does not
 // say whether a place is free.
-
+//
 // What adding comes to; `table` is the number that a refusal for want of a free place names.
 #[tactic(auto, using(crate::proofs::Places::located_within, crate::proofs::Places::located_read))]
 fn plan_adding<K: Key>(
@@ -85,7 +85,7 @@ fn used_rows<K: Key>(rows: &[Row<K>], count: usize) -> usize
     ensures is { result ≡ used rows.now count }
     ensures lawful { Lawful K.Key.digits K.Key.zero rows.now (used rows.now count) }
 {
-    count.min(rows.len())
+    steps::used(rows, count)
 }
 
 // Adds amounts under a key: the new number of rows, or 25 with the table's number, or 26.

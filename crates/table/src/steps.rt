@@ -10,7 +10,7 @@ use keys::key::Key;
 use std::cmp::Ordering;
 
 // How many of the first `count` places there are.
-pub(crate) fn used<R>(slots: &[R], count: usize) -> usize
+pub fn used<R>(slots: &[R], count: usize) -> usize
     ensures { result ≡ used slots.now count }
 {
     count.min(slots.len())

@@ -27,7 +27,8 @@ impl From<Class> for char {
 }
 
 // `marks` has one byte for each State from State 1 on, 1 when it takes part.
-// `year` and `marks` are two parameters, since a struct of both would be built by the callers only to be taken apart here.
+// `year` and `marks` are two parameters, since a struct of both would be built by the callers only to be taken apart
+// here.
 pub fn class_of(year: u16, marks: &[u8], pair: StatePair) -> Class
     ensures { result ≡ class_of year marks.now pair }
 {

@@ -6,6 +6,7 @@ ghost use Rattle.totals.specs.Totals.{totals_of, counted, Roomy};
 use crate::classes::{Class, class_of};
 use keys::kinds::StatePair;
 use sums::rows::Row;
+use table::steps;
 
 // Hundredths of a gram; wide enough for whatever the rows hold.
 #[derive(Clone, Copy, Debug, Default, PartialEq, Eq)]
@@ -34,12 +35,13 @@ impl Totals {
     }
 }
 
-// Of the first `count` rows. They come as a slice and a count, since a `Table` of both asks for the loan of a `&mut` slice.
+// Of the first `count` rows. They come as a slice and a count, since a `Table` of both asks for the loan of a `&mut`
+// slice.
 pub fn total(year: u16, marks: &[u8], rows: &[Row<StatePair>], count: usize) -> Totals
     ensures { result ≡ totals_of year marks.now (take (used rows.now count) rows.now) }
 {
     let mut totals = Totals::default();
-    for row in &rows[..count.min(rows.len())] {
+    for row in &rows[..steps::used(rows, count)] {
         totals.add(class_of(year, marks, row.key), row.amounts.co2);
     }
     totals

@@ -1,6 +1,7 @@
 -- The ranges of an entry's fields, by their numbers on the flight line. Assumes nothing.
-use Rattle.std.specs.Prelude.{ℕ, ◌*◌, Bool, true, false, ◌&&◌, Some, None, Ok, Err, Option, Result, nat_le}
+use Rattle.std.specs.Prelude.{ℕ, ◌*◌, Bool, true, ◌&&◌, Some, None, Option, Result, nat_le}
 use Rattle.units.specs.Alphabet.{designator, aerodrome_code}
+use Rattle.units.specs.Fault.{held}
 use Rattle.units.specs.Measuring.{in_range}
 use Rattle.units.specs.Steps.{then}
 use Rattle.units.specs.declared.entries.Entry.{Entry}
@@ -20,8 +21,7 @@ reported_in_range flights (Some kilograms) = nat_le kilograms (400000 * flights)
 
 -- a field that is not in its range is refused by its number
 abbrev pub within : Bool → ℕ → Result (Unit {0}) Refusal
-within true field = Ok tt
-within false field = Err (OutOfRange field)
+within good field = held good (OutOfRange field)
 
 abbrev pub reference_checked : ℕ → Result (Unit {0}) Refusal
 reference_checked n = within (reference_in_range n) 2

@@ -1,5 +1,5 @@
 -- What a refusal is called: the letter of its layer, its number and its place. Assumes nothing.
-use Rattle.std.specs.Prelude.{ℕ, List, ◌∷◌, ◌++◌, decimal}
+use Rattle.std.specs.Prelude.{ℕ, Bool, cond, Ok, Err, List, Result, ◌∷◌, ◌++◌, decimal}
 use Rattle.units.specs.declared.refusals.Fault.{Fault}
 use Rattle.units.specs.declared.refusals.Layer.{Layer}
 use Rattle.units.specs.declared.refusals.Layer.TheVariants.{Book, Text, Directory, Estimator, Ledger}
@@ -21,7 +21,7 @@ abbrev pub list_layer : ListOwner → Layer
 list_layer OfDirectory = Directory
 list_layer OfEstimator = Estimator
 
-abbrev called : Layer → ℕ → ℕ → Fault
+abbrev pub called : Layer → ℕ → ℕ → Fault
 called l n p = record { layer = l; number = n; place = p }
 
 abbrev pub fault : Refusal → Fault
@@ -63,3 +63,7 @@ fault BufferShort = called Text 34 0
 -- as it is printed: letter, number and place, with a space between
 abbrev pub fault_text : Fault → List ℕ
 fault_text f = letter f.layer ∷ 32 ∷ decimal f.number ++ 32 ∷ decimal f.place
+
+-- a check that does not hold is refused
+abbrev pub held : Bool → Refusal → Result (Unit {0}) Refusal
+held good refusal = cond good (Ok tt) (Err refusal)

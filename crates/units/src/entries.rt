@@ -4,7 +4,7 @@ ghost use Rattle.units.specs.Entries.{reference_in_range, flights_in_range, repo
 
 use crate::codes::{AerodromeCode, Designator, is_aerodrome_code, is_designator};
 use crate::measures::Measure;
-use crate::refusals::Refusal;
+use crate::refusals::{Refusal, hold};
 
 // Its fields in the order of the flight line; well formed and in range or not.
 #[derive(Clone, Copy, Debug, PartialEq, Eq)]
@@ -35,20 +35,13 @@ fn is_flights(flights: u32) -> bool
 fn is_reported(flights: u32, reported: Option<u32>) -> bool
     ensures { result ≡ reported_in_range flights reported }
 {
-    match reported {
-        Some(kilograms) => kilograms as u64 <= 400_000 * flights as u64,
-        None => true,
-    }
+    reported.is_none_or(|kilograms| kilograms as u64 <= 400_000 * flights as u64)
 }
 
 fn owed(good: bool, field: usize) -> Result<(), Refusal>
     ensures { result ≡ within good field }
 {
-    if good {
-        Ok(())
-    } else {
-        Err(Refusal::OutOfRange(field))
-    }
+    hold(good, Refusal::OutOfRange(field))
 }
 
 // Refusal 18 where the reference is out of range.

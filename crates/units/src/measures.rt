@@ -14,16 +14,10 @@ pub struct Measure {
     pub amount: u32,
 }
 
-// A number that no case has.
+// A number or a letter that no case has.
 #[derive(Clone, Copy, Debug, PartialEq, Eq)]
-pub struct UnknownNumber {
-    pub number: u32,
-}
-
-// A letter that no case has.
-#[derive(Clone, Copy, Debug, PartialEq, Eq)]
-pub struct UnknownLetter {
-    pub letter: char,
+pub struct Unknown<T> {
+    pub given: T,
 }
 
 impl From<Kind> for u8 {
@@ -38,15 +32,15 @@ impl From<Kind> for u8 {
 }
 
 impl TryFrom<u32> for Kind {
-    type Error = UnknownNumber;
+    type Error = Unknown<u32>;
 
     ghost try_from_gives = { λ number kind. kind ≡ numbered number };
 
-    fn try_from(number: u32) -> Result<Kind, UnknownNumber> {
+    fn try_from(number: u32) -> Result<Kind, Unknown<u32>> {
         match number {
             1 => Ok(Kind::Distance),
             2 => Ok(Kind::Time),
-            _ => Err(UnknownNumber { number }),
+            _ => Err(Unknown { given: number }),
         }
     }
 }
@@ -63,15 +57,15 @@ impl From<Kind> for char {
 }
 
 impl TryFrom<char> for Kind {
-    type Error = UnknownLetter;
+    type Error = Unknown<char>;
 
     ghost try_from_gives = { λ letter kind. kind ≡ lettered letter };
 
-    fn try_from(letter: char) -> Result<Kind, UnknownLetter> {
+    fn try_from(letter: char) -> Result<Kind, Unknown<char>> {
         match letter {
             'D' => Ok(Kind::Distance),
             'T' => Ok(Kind::Time),
-            _ => Err(UnknownLetter { letter }),
+            _ => Err(Unknown { given: letter }),
         }
     }
 }

@@ -16,7 +16,8 @@ pub struct WorkedEntry {
     pub under_query: bool,
 }
 
-#[derive(Clone, Copy, Debug, PartialEq, Eq)]
+// Three flags: a worked-out entry that a caller holds may have any of them.
+#[derive(Clone, Copy, Debug, Default, PartialEq, Eq)]
 pub struct Marks {
     // its fuel is an estimate
     pub gap: bool,

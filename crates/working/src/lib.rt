@@ -43,20 +43,18 @@ fn is_far_from(fuel: u64, product: u64) -> bool
 fn marks(reported: Option<u32>, estimate: Answer) -> Marks
     ensures { result ≡ marks_of reported estimate }
 {
-    let none = Marks {
-        gap: false,
-        far: false,
-        unchecked: false,
-    };
     match (reported, estimate) {
-        (None, _) => Marks { gap: true, ..none },
+        (None, _) => Marks {
+            gap: true,
+            ..Marks::default()
+        },
         (Some(kilograms), Ok(product)) => Marks {
             far: is_far_from(1_000 * kilograms as u64, product),
-            ..none
+            ..Marks::default()
         },
         (Some(_), Err(_)) => Marks {
             unchecked: true,
-            ..none
+            ..Marks::default()
         },
     }
 }
