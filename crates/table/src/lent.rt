@@ -16,7 +16,7 @@ pub const MOST_PLACES: usize = 32_768;
 pub struct Table<'a, R: Record> {
     slots: &'a mut [R],
     count: usize,
-    ghost within: { count ≤ length slots.now },
+    pub ghost within: { count ≤ length slots.now },
 }
 
 impl<'a, R: Record> Table<'a, R> {
