@@ -8,15 +8,14 @@ use units::refusals::Refusal;
 
 // The first `count` places hold the items, and each of them fits: one that does not is refused. An array with its count, since the
 // kit's vector of fixed capacity asks that an item has a default, and is not `Copy`: callers would be asked more.
+#[derive(Copy)]
 pub struct ShortList<T: Item, const N: usize> {
     count: usize,
     items: [T; N],
     pub ghost fit: { list_all T.fitting (take (min count N) items) ≡ true },
 }
 
-// By hand, since no copy is derived over a ghost field here.
-impl<T: Item, const N: usize> Copy for ShortList<T, N> {}
-
+// By hand, since it is not derived for a struct with a type parameter and a ghost field.
 impl<T: Item, const N: usize> Clone for ShortList<T, N> {
     ghost is_clone = { λ list copy. copy ≡ list };
 
