@@ -26,7 +26,7 @@ impl<D: Directory> CustomAerodromes<D> {
     {
         CustomAerodromes {
             below,
-            list: ShortList::new(),
+            list: ShortList::new(CustomAerodrome::default()),
         }
     }
 

@@ -22,7 +22,7 @@ impl Prefixes {
         ensures { prefixes_of result ≡ [] }
     {
         Prefixes {
-            list: ShortList::new(),
+            list: ShortList::new(Prefix::default()),
         }
     }
 

@@ -24,7 +24,7 @@ impl<E, T: Item + Default> Layer<E, T> {
     {
         Layer {
             below,
-            list: ShortList::new(),
+            list: ShortList::new(T::default()),
         }
     }
 }

@@ -1,32 +1,52 @@
 // A list of at most `N` items, in the order in which they were added.
-ghost use Rattle.std.specs.Prelude.{◌≡◌, true};
+ghost use Rattle.std.specs.Prelude.{◌≡◌, ⊤, true, min, take};
 ghost use Rattle.std.specs.List.{list_all};
 
 use crate::item::Item;
-use arrayvec::ArrayVec;
+use std::alloc::AllocError;
 use units::refusals::Refusal;
 
-// Every item fits: additions keep it so, since an item that does not fit is refused.
-#[derive(Drop)]
+// The first `count` places hold the items, and each of them fits: one that does not is refused. An array with its count, since the
+// kit's vector of fixed capacity asks that an item has a default, and is not `Copy`: callers would be asked more.
+#[derive(Copy)]
 pub struct ShortList<T: Item, const N: usize> {
-    items: ArrayVec<T, N>,
-    pub ghost fit: { list_all T.fitting items.items ≡ true },
+    count: usize,
+    items: [T; N],
+    pub ghost fit: { list_all T.fitting (take (min count N) items) ≡ true },
+}
+
+// By hand, since it is not derived for a struct with a type parameter and a ghost field.
+impl<T: Item, const N: usize> Clone for ShortList<T, N> {
+    ghost is_clone = { λ list copy. copy ≡ list };
+
+    ghost is_infallible = { λ _. ⊤ };
+
+    fn clone(&self) -> Result<ShortList<T, N>, AllocError> {
+        Ok(*self)
+    }
 }
 
 impl<T: Item, const N: usize> ShortList<T, N> {
-    ghost use Rattle.std.specs.Prelude.{[], length, is_some, nat_le, IfSome};
+    ghost use Rattle.std.specs.Prelude.{◌<◌, false, [], ◌∷◌, ◌++◌, length, is_some, nat_le, IfSome};
     ghost use Rattle.lists.specs.Entries.{entries};
     ghost use Rattle.lists.specs.Listing.{listed, added, after_adding};
 
-    // An empty list. Places that are not used hold the default, with which the kit's vector fills them.
-    pub fn new() -> ShortList<T, N>
-    where
-        T: Default,
+    // An empty list; `blank` fills the places that are not used.
+    pub fn new(blank: T) -> ShortList<T, N>
         ensures { entries result ≡ [] }
     {
         ShortList {
-            items: ArrayVec::new(),
+            count: 0,
+            items: [blank; N],
         }
+    }
+
+    // The items that were added. The length of the array is known once the whole is sliced.
+    fn held(&self) -> &[T]
+        ensures { result.now ≡ entries self.now }
+    {
+        let items = &self.items[..];
+        &items[..self.count.min(N)]
     }
 
     // The item of that name. It fits, as every item does.
@@ -34,7 +54,26 @@ impl<T: Item, const N: usize> ShortList<T, N> {
         ensures is { result ≡ listed T.naming name (entries self.now) }
         ensures fit { IfSome result (λ x. T.fitting x ≡ true) }
     {
-        self.items.iter().find(|item| item.name() == name).copied()
+        self.held().iter().find(|item| item.name() == name).copied()
+    }
+
+    // Whether every place is used.
+    fn is_full(&self) -> bool
+        ensures is { result ≡ nat_le N (length (entries self.now)) }
+        ensures room { result ≡ false → self.now.count < N }
+    {
+        let items = &self.items[..];
+        self.count >= items.len()
+    }
+
+    fn push(&mut self, item: T)
+        requires room { self.old.count < N }
+        requires fits { T.fitting item ≡ true }
+        ensures { entries self.new ≡ entries self.old ++ item ∷ [] }
+    {
+        let at = self.count;
+        self.items[at] = item;
+        self.count = at + 1;
     }
 
     // Adds an item at the end. Refused, the list stays as it is.
@@ -42,7 +81,7 @@ impl<T: Item, const N: usize> ShortList<T, N> {
         ensures answer { result ≡ added T.OWNER (nat_le N (length (entries self.old))) (T.formed item) (is_some (listed T.naming (T.naming item) (entries self.old))) (T.fitting item) }
         ensures after { entries self.new ≡ after_adding result (entries self.old) item }
     {
-        if self.items.is_full() {
+        if self.is_full() {
             return Err(Refusal::ListFull(T::OWNER));
         }
         if !item.is_formed() {
@@ -54,7 +93,7 @@ impl<T: Item, const N: usize> ShortList<T, N> {
         if !item.is_fitting() {
             return Err(Refusal::ListValue(T::OWNER));
         }
-        self.items.push(item);
+        self.push(item);
         Ok(())
     }
 }

@@ -8,4 +8,4 @@ pub returns-clause-is : goal.returns-clause-is
 returns-clause-is g c =
     c.copied.ensures
     ∙ find_from_yields_List (λ x. bytes_eq (g.T.Item.naming x) c.args.name) _ _ _ c.find.ensures.ran
-    (YieldsList-from_slice _ (c.iter.ensures.rest ∙ c.deref.ensures.0)) (λ x b q k. search (rules, tests))
+    (YieldsList-from_slice _ (c.iter.ensures.rest ∙ c.held.ensures)) (λ x b q k. search (rules, tests))
