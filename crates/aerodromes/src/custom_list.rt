@@ -10,8 +10,8 @@ use lists::short::ShortList;
 use units::codes::AerodromeCode;
 use units::refusals::Refusal;
 
-// Custom aerodromes, each with a State from 1 to 193, and the directory asked after them. Not the estimators' `Layer`, which
-// stands in a crate above: moved below both, it could take no `impl` of `Estimator` there.
+// Custom aerodromes, each with a State from 1 to 193, and the directory asked after them. Not the estimators' `Layer`,
+// which stands in a crate of its own: moved below both, it could take no `impl` of `Estimator` there.
 #[derive(Drop)]
 pub struct CustomAerodromes<D> {
     below: D,

@@ -40,8 +40,8 @@ pub struct Aerodrome {
     pub state: u16,
 }
 
-// The five sections, as parts of the book's bytes, which the definitions speak of. Not as items: the proof of a function
-// that reads a field is not told how many bytes an item in it has. `items` cuts them where they are read.
+// The five sections, as parts of the book's bytes, which the definitions speak of. Not as items: the proof of a
+// function that reads a field is not told how many bytes an item in it has. `items` cuts them where they are read.
 #[derive(Clone, Copy)]
 pub struct Parts<'a> {
     pub(crate) distances: &'a [u8],

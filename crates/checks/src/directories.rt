@@ -78,26 +78,11 @@ fn prefix(of: &[u8; 2], state: u16) -> Prefix {
 #[test]
 fn prefixes_are_the_first_two_characters(rt: HostRuntime) {
     let mut prefixes = Prefixes::new();
-    assert_eq!(rt;
-        named(prefixes.add(prefix(b"EG", 9))),
-        Ok(())
-    );
-    assert_eq!(rt;
-        named(prefixes.add(prefix(b"EG", 8))),
-        Err(('D', 10))
-    );
-    assert_eq!(rt;
-        named(prefixes.add(prefix(b"eG", 8))),
-        Err(('D', 9))
-    );
-    assert_eq!(rt;
-        named(prefixes.add(prefix(b"E ", 8))),
-        Err(('D', 9))
-    );
-    assert_eq!(rt;
-        named(prefixes.add(prefix(b"EH", 0))),
-        Err(('D', 11))
-    );
+    assert_eq!(rt; named(prefixes.add(prefix(b"EG", 9))), Ok(()));
+    assert_eq!(rt; named(prefixes.add(prefix(b"EG", 8))), Err(('D', 10)));
+    assert_eq!(rt; named(prefixes.add(prefix(b"eG", 8))), Err(('D', 9)));
+    assert_eq!(rt; named(prefixes.add(prefix(b"E ", 8))), Err(('D', 9)));
+    assert_eq!(rt; named(prefixes.add(prefix(b"EH", 0))), Err(('D', 11)));
     assert_eq!(rt;
         (
             state(&prefixes, b"EGLL"),
@@ -119,9 +104,6 @@ fn the_prefix_list_has_256_places(rt: HostRuntime) {
         };
         assert_eq!(rt; named(prefixes.add(item)), Ok(()));
     }
-    assert_eq!(rt;
-        named(prefixes.add(prefix(b"00", 1))),
-        Err(('D', 8))
-    );
+    assert_eq!(rt; named(prefixes.add(prefix(b"00", 1))), Err(('D', 8)));
     assert_eq!(rt; state(&prefixes, b"PPAA"), Some(1));
 }

@@ -16,8 +16,8 @@ pub(crate) fn fields_of(line: &[u8]) -> Option<Fields<'_>> {
     Some(fields)
 }
 
-// What a field spells. Where it spells nothing the default, so that the list that is asked names what is wrong with it, in
-// the order of its checks.
+// What a field spells. Where it spells nothing the default, so that the list that is asked names what is wrong with it,
+// in the order of its checks.
 pub(crate) fn value<T: Spelled + Default + Drop>(field: &[u8]) -> T {
     read(field).unwrap_or_default()
 }

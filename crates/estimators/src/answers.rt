@@ -13,8 +13,8 @@ pub enum NoEstimate {
     Beyond,
 }
 
-// Grams of fuel for one flight, or why there are none. A number whose bound `ask` promises: a type of its own would be taken
-// apart wherever it is scaled, multiplied or printed.
+// Grams of fuel for one flight, or why there are none. A number whose bound `ask` promises: a type of its own would be
+// taken apart wherever it is scaled, multiplied or printed.
 pub type Answer = Result<u64, NoEstimate>;
 
 // Whether the estimator knows the type.

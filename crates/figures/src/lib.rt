@@ -14,7 +14,8 @@ pub fn figures_proved() -> u32
     8
 }
 
-// How many figures of the verdict there are; each of them is proved. A count of its own: the other was promised to be 8.
+// How many figures of the verdict there are; each of them is proved. A count of its own, since the other is promised to
+// be 8.
 pub fn verdict_figures_proved() -> u32
     ensures count { result ≡ 5 }
     ensures figures { VerdictFigures }

@@ -6,8 +6,9 @@ use crate::item::Item;
 use std::alloc::AllocError;
 use units::refusals::Refusal;
 
-// The first `count` places hold the items, and each of them fits: one that does not is refused. An array with its count, since the
-// kit's vector of fixed capacity asks that an item has a default, and is not `Copy`: callers would be asked more.
+// The first `count` places hold the items, and each of them fits: one that does not is refused. An array with its
+// count, since the kit's vector of fixed capacity asks that an item has a default, and is not `Copy`: callers would be
+// asked more.
 #[derive(Copy)]
 pub struct ShortList<T: Item, const N: usize> {
     count: usize,

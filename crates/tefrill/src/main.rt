@@ -13,8 +13,14 @@ use units::refusals::Refusal;
 
 fn print_header(rt: &HostRuntime, header: Header) -> io::Result<()> {
     println!(rt; "book of {}", header.year)?;
-    println!(rt; "distance columns {}, time columns {}", header.distances, header.times)?;
-    println!(rt; "rows {}, aerodromes {}, States {}", header.rows, header.aerodromes, header.states)
+    println!(rt;
+        "distance columns {}, time columns {}",
+        header.distances, header.times
+    )?;
+    println!(rt;
+        "rows {}, aerodromes {}, States {}",
+        header.rows, header.aerodromes, header.states
+    )
 }
 
 fn print_estimate(rt: &HostRuntime, book: &Book<'_>) -> io::Result<()> {
