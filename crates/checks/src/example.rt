@@ -17,7 +17,7 @@ pub(crate) const EXAMPLE: [u8; 192] = [
     66, 2, 0, 0, 0, 1, 1,
 ];
 
-// What was answered; a refusal by its number and place.
+// What was answered; a refusal by its number and place. Alike in each crate of tests, which stand alone.
 pub(crate) fn told<T: Drop>(answer: Result<T, Refusal>) -> Result<T, (u32, usize)> {
     answer.map_err(|refusal| {
         let fault = Fault::from(refusal);

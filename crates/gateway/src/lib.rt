@@ -31,7 +31,8 @@ fn fuel_of(book: &[u8], designator: &[u8], kind: u32, amount: u32) -> Result<u64
 }
 
 // The fuel in grams, or minus the number of the refusal: 1 to 7 of the book, then 18 for a type, kind or measure
-// that is malformed or out of range, 22 where the type is not known and 23 beyond the model.
+// that is malformed or out of range, 22 where the type is not known and 23 beyond the model. Numbers for the kind and
+// the refusals, since the caller is in C.
 #[unsafe(no_mangle)]
 pub extern "C" fn tefrill_fuel(book: &[u8], designator: &[u8], kind: u32, measure: u32) -> i64
     ensures { result ≡ signed (one_flight book.now designator.now kind measure) }

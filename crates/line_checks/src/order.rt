@@ -19,7 +19,7 @@ pub(crate) const FIRST: Entry = Entry {
     exempt: false,
 };
 
-// A refusal as its number and place.
+// A refusal as its number and place. Alike in each crate of tests, which stand alone.
 pub(crate) fn named<T>(answer: Result<T, Refusal>) -> Result<T, (u32, usize)> {
     answer.map_err(|refusal| {
         let fault = Fault::from(refusal);

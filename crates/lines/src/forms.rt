@@ -86,6 +86,7 @@ fn are_characters(bytes: &[u8]) -> bool
     bytes.iter().all(|b| is_character(*b))
 }
 
+// At the front of four spaces: the library has nothing that fills up.
 fn filled(bytes: &[u8]) -> [u8; 4]
     requires { length bytes.now ≤ 4 }
     ensures { result ≡ filled_up bytes.now }

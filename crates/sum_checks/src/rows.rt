@@ -16,7 +16,7 @@ fn row(departure: u16, arrival: u16, flights: u32, fuel: u64) -> Row<StatePair> 
     }
 }
 
-// The count after a change, or the number of the refusal and its place.
+// The count after a change, or the number of the refusal and its place. Alike in each crate of tests.
 fn outcome(count: Result<usize, Refusal>) -> Result<usize, (u32, usize)> {
     count.map_err(|refusal| {
         let fault = Fault::from(refusal);

@@ -11,6 +11,7 @@ use table::lent::Table;
 use table::steps;
 use units::refusals::Refusal;
 
+// Planned and then made, not a closure that makes it: a plan is looked at before anything is written.
 #[derive(Clone, Copy, Debug, PartialEq, Eq)]
 pub enum Change<K: Key> {
     Insert(usize, Row<K>),

@@ -11,7 +11,8 @@ use keys::key::Key;
 // The most places of a table; the fewest is one.
 pub const MOST_PLACES: usize = 32_768;
 
-// The first `count` slots hold the records.
+// The first `count` slots hold the records. The caller lends the slots, so their memory is fixed. The methods are thin
+// over the steps, which stand by themselves for whoever may only read the slice.
 #[derive(Drop)]
 pub struct Table<'a, R: Record> {
     slots: &'a mut [R],

@@ -28,6 +28,7 @@ impl Draft {
         }
     }
 
+    // Each part asks for room of its own length, so the line's type cannot say it for all.
     pub(crate) fn put(&mut self, part: &[u8])
         requires { length self.old + length part.now ≤ 80 }
         ensures { self.new ≡ self.old ++ part.now }
