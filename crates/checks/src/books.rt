@@ -155,11 +155,11 @@ fn look_ups_find_what_is_there(rt: HostRuntime) {
 #[test]
 fn rows_and_aerodromes_read_back(rt: HostRuntime) -> Result<(), Fail> {
     let book = Book::of(&EXAMPLE);
-    let row = book.row(0).ok_or(Fail::new("no row"))?;
+    let row = book.row(0).ok_or_else(|| Fail::new("no row"))?;
     assert_eq!(rt; row.designator.bytes, *b"GL7T");
     assert_eq!(rt; row.fuels, 17);
     assert!(rt; book.row(1).is_none());
-    let aerodrome = book.aerodrome(1).ok_or(Fail::new("no aerodrome"))?;
+    let aerodrome = book.aerodrome(1).ok_or_else(|| Fail::new("no aerodrome"))?;
     assert_eq!(rt; aerodrome.code.bytes, *b"BBBB");
     assert_eq!(rt; aerodrome.state, 2);
     assert!(rt; book.aerodrome(2).is_none());
