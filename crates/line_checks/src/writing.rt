@@ -89,7 +89,7 @@ fn a_range_is_looked_at_before_the_room(rt: HostRuntime) {
 }
 
 #[test]
-fn ranges_of_the_reference_and_the_type(rt: HostRuntime) {
+fn ranges_of_an_entry(rt: HostRuntime) {
     assert_eq!(rt; named(FIRST.check()), Ok(()));
     let unnumbered = Entry {
         reference: 0,
