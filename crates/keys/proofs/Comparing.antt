@@ -1,12 +1,12 @@
 -- What a comparison tells, and how lists of digits compare part by part. Assumes nothing.
-use Rattle.std.proofs.Common.{◌≡◌, ℕ, true, false, List, [], ◌∷◌, ◌++◌, length, Ordering, Less, Equal, Greater, sym, refl, ap, ◌∙◌, ⊎_elim, arith}
+use Rattle.std.proofs.Common.{◌≡◌, ℕ, true, false, cond, List, [], ◌∷◌, ◌++◌, length, Ordering, Less, Equal, Greater, sym, refl, ap, ◌∙◌, ⊎_elim, arith}
 use Rattle.std.specs.Ordering.{is_lt, nat_cmp, ordering_then, ordering_reverse}
-use Rattle.std.proofs.lemmas.Bool.{cases_Bool, both_ways}
+use Rattle.std.proofs.lemmas.Bool.{cases_Bool, both_ways, cond_both}
 use Rattle.std.proofs.lemmas.Bool.Decides.{nat_tests}
 use Rattle.std.proofs.lemmas.Cmp.{same_from_slice_cmp, nat_list_cmp_total}
 use Rattle.std.proofs.lemmas.Map.Lookups.{exact_bytes}
-use Rattle.units.specs.Order.{earlier}
-use Rattle.units.proofs.Ordered.{earlier_trans, same_not_earlier, equal_same}
+use Rattle.units.specs.Order.{earlier, same}
+use Rattle.units.proofs.Ordered.{earlier_trans, same_not_earlier, neither_same, same_equal, equal_same}
 use Rattle.keys.specs.Compared.{compared}
 
 then_equal : (o : Ordering) → ordering_then o Equal ≡ o
@@ -59,3 +59,42 @@ module _ (xs ys : List ℕ) where
   compared_tells Less e = sym (ap is_lt e ∙ is_earlier xs ys)
   compared_tells Equal e = exact_bytes xs ys (sym e)
   compared_tells Greater e = sym (ap (λ o. is_lt (ordering_reverse o)) e ∙ ap is_lt (sym (nat_list_cmp_total.antisymm ys xs)) ∙ is_earlier ys xs)
+
+  -- equal lists do not stand before one another
+  level : xs ≡ ys → earlier xs ys ≡ false
+  level h = same_not_earlier xs ys (ap (same xs) (sym h) ∙ equal_same xs)
+
+  level_back : xs ≡ ys → earlier ys xs ≡ false
+  level_back h = same_not_earlier ys xs (ap (same ys) h ∙ equal_same ys)
+
+  less_told : (o : Ordering) → o ≡ compared xs ys → earlier xs ys ≡ true → o ≡ Less
+  less_told Less e h = refl
+  less_told Equal e h = absurd (both_ways (earlier xs ys) (level (compared_tells Equal e)) h)
+  less_told Greater e h = absurd (both_ways (earlier ys xs) (earlier_not_later xs ys h) (compared_tells Greater e))
+
+  greater_told : (o : Ordering) → o ≡ compared xs ys → earlier ys xs ≡ true → o ≡ Greater
+  greater_told Less e h = absurd (both_ways (earlier xs ys) (earlier_not_later ys xs h) (compared_tells Less e))
+  greater_told Equal e h = absurd (both_ways (earlier ys xs) (level_back (compared_tells Equal e)) h)
+  greater_told Greater e h = refl
+
+  equal_told : (o : Ordering) → o ≡ compared xs ys → xs ≡ ys → o ≡ Equal
+  equal_told Less e h = absurd (both_ways (earlier xs ys) (level h) (compared_tells Less e))
+  equal_told Equal e h = refl
+  equal_told Greater e h = absurd (both_ways (earlier ys xs) (level_back h) (compared_tells Greater e))
+
+  -- what each answer is told by
+  pub earlier_less : earlier xs ys ≡ true → compared xs ys ≡ Less
+  earlier_less = less_told (compared xs ys) refl
+
+  pub later_greater : earlier ys xs ≡ true → compared xs ys ≡ Greater
+  later_greater = greater_told (compared xs ys) refl
+
+  pub equal_equal : xs ≡ ys → compared xs ys ≡ Equal
+  equal_equal = equal_told (compared xs ys) refl
+
+  -- the comparison by the order of keys
+  pub compared_by_order : compared xs ys ≡ cond (earlier xs ys) Less (cond (same xs ys) Equal Greater)
+  compared_by_order =
+      cond_both (earlier xs ys) Less (cond (same xs ys) Equal Greater) (λ o. compared xs ys ≡ o) earlier_less
+      (λ after. cond_both (same xs ys) Equal Greater (λ o. compared xs ys ≡ o) (λ alike. equal_equal (same_equal xs ys alike))
+      (λ apart. ⊎_elim later_greater (λ neither. absurd (both_ways (same xs ys) apart (neither_same xs ys after neither))) (cases_Bool (earlier ys xs))))

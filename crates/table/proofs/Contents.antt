@@ -1,8 +1,9 @@
 -- The records and the rest of a table after a change, as lists. Assumes nothing.
-use Rattle.std.proofs.Common.{◌≡◌, ℕ, suc, ◌+◌, ◌-◌, ◌<◌, ◌≤◌, List, ◌∷◌, ◌++◌, length, take, drop, set, ap, ◌∙◌, arith, rules}
+use Rattle.std.proofs.Common.{◌≡◌, ℕ, suc, ◌+◌, ◌-◌, ◌<◌, ◌≤◌, List, ◌∷◌, ◌++◌, length, get_or, take, drop, set, ap, ◌∙◌, arith, rules, le_of_lt, get_or-take, take-take}
 use Rattle.std.specs.List.{insert, remove, copy_within}
 use Rattle.std.proofs.lemmas.Bool.{cases_eq}
-use Rattle.std.proofs.lemmas.List.{places, same_lists, get_or-set_same}
+use lib.Seq.{split_at}
+use Rattle.std.proofs.lemmas.List.{length-take-le, places, same_lists, get_or-set_same}
 use Rattle.table.specs.Changing.{put_in, taken_out}
 
 module _ {R : Type 0} (xs : List R) (n p : ℕ) where
@@ -43,6 +44,13 @@ module _ {R : Type 0} (xs : List R) (n p : ℕ) where
 
     pub length_taken_out : length (taken_out blank xs n p) ≡ length xs
     length_taken_out = search (rules, places)
+
+    -- the records before a change at p, split there
+    pub records_split : take n xs ≡ take p xs ++ get_or xs p blank ∷ drop (suc p) (take n xs)
+    records_split =
+        let long = length-take-le n xs le in
+        split_at (take n xs) p blank (omega arith)
+        ∙ (λ i. take-take p n xs (le_of_lt lt) i ++ get_or-take n xs p blank lt i ∷ drop (suc p) (take n xs))
 
     pub set_records : (r : R) → take n (set xs p r) ≡ take p xs ++ r ∷ drop (suc p) (take n xs)
     set_records r = same_lists _ _ (search (rules, places)) (λ k d h. grind (arith, places, get_or-set_same, cases_eq k p))
