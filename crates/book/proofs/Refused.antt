@@ -14,7 +14,8 @@ use Rattle.std.specs.declared.ops.Range.{Range}
 use Rattle.units.specs.Places.{first, first_from}
 use Rattle.units.proofs.Searched.{none_first, some_first}
 
-first_at : (test : ℕ → Bool) (n : ℕ) (r : Option ℕ) → MatchOption r ((k : ℕ) → 0 ≤ k → k < n → test k ≡ false) (λ i. (0 ≤ i) × (i < n) × (test i ≡ true) × ((k : ℕ) → 0 ≤ k → k < i → test k ≡ false)) → r ≡ first test n
+-- the first place that passes, from what a search says of its answer
+pub first_at : (test : ℕ → Bool) (n : ℕ) (r : Option ℕ) → MatchOption r ((k : ℕ) → 0 ≤ k → k < n → test k ≡ false) (λ i. (0 ≤ i) × (i < n) × (test i ≡ true) × ((k : ℕ) → 0 ≤ k → k < i → test k ≡ false)) → r ≡ first test n
 first_at test n None told = sym (none_first test n (λ k lt. told k (omega arith) lt))
 first_at test n (Some i) told = sym (some_first test n i told.1 told.2 (λ k lt. told.3 k (omega arith) lt))
 

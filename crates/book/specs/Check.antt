@@ -1,5 +1,6 @@
 -- The check of a data book: the first check that its bytes fail. Assumes nothing.
 use Rattle.std.specs.Prelude.{ℕ, Bool, cond, ◌&&◌, ◌||◌, List, length, is_ok, Some, None, Ok, Err, Option, Result, nat_le}
+use Rattle.units.specs.Fault.{held}
 use Rattle.units.specs.Measuring.{limit}
 use Rattle.units.specs.Places.{first}
 use Rattle.units.specs.declared.measures.Kind.TheVariants.{Distance, Time}
@@ -15,7 +16,7 @@ Checked = Result (Unit {0}) Refusal
 
 -- a check that passes where the test holds
 abbrev pub hold : Bool → Refusal → Checked
-hold good refusal = cond good (Ok tt) (Err refusal)
+hold = held
 
 -- one check, and where it passes the next
 abbrev pub after : {A : Type 0} → Checked → Result A Refusal → Result A Refusal
