@@ -7,7 +7,8 @@ ghost use Rattle.gateway.specs.Flight.{type_of as four_bytes, one_flight, signed
 
 use book::checked::Book;
 use book::checks::check_book;
-use questions::flight_fuel;
+use estimators::asking::Estimator;
+use questions::flight_measure;
 use units::codes::Designator;
 use units::measures::Kind;
 use units::refusals::{Fault, Refusal};
@@ -27,7 +28,9 @@ fn fuel_of(book: &[u8], designator: &[u8], kind: u32, amount: u32) -> Result<u64
     check_book(book)?;
     let designator = type_of(designator)?;
     let kind = Kind::try_from(kind).ok();
-    flight_fuel(&Book::of(book), designator, kind, Some(amount))
+    // Before the book is made, which checks its bytes once more.
+    let measure = flight_measure(designator, kind, Some(amount))?;
+    Ok(Book::of(book).ask(designator, measure)?)
 }
 
 // The fuel in grams, or minus the number of the refusal: 1 to 7 of the book, then 18 for a type, kind or measure

@@ -28,9 +28,13 @@ asked_measure kind amount = then (given 6 kind) (λ k. then (given 7 amount) (λ
 abbrev pub asked_type : Designator → Result Designator Refusal
 asked_type d = cond (designator d.bytes) (Ok d) (Err (OutOfRange 3))
 
+-- the measure of one flight: type, kind and measure are looked at in this order
+abbrev pub flight_asked : Designator → Option Kind → Option ℕ → Result Measure Refusal
+flight_asked d kind amount = then (asked_type d) (λ _. asked_measure kind amount)
+
 -- the fuel of one flight by an estimator: type, kind and measure are looked at first, in this order
 abbrev pub fuel_asked : (Designator → Measure → Answer) → Designator → Option Kind → Option ℕ → Result ℕ Refusal
-fuel_asked meaning d kind amount = then (asked_type d) (λ t. then (asked_measure kind amount) (λ m. outcome (meaning t m)))
+fuel_asked meaning d kind amount = then (flight_asked d kind amount) (λ m. outcome (meaning d m))
 
 -- the State that was found, else the aerodrome is not known
 abbrev pub state_found : Option ℕ → Result ℕ Refusal

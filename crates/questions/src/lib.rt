@@ -3,7 +3,7 @@
 
 ghost use Rattle.std.specs.Prelude.{◌≡◌, ◌≤◌, IfOk};
 ghost use Rattle.units.specs.Amount.{fuel_limit};
-ghost use Rattle.questions.specs.Questions.{fuel_asked, state_asked};
+ghost use Rattle.questions.specs.Questions.{flight_asked, fuel_asked, state_asked};
 
 use aerodromes::directory::Directory;
 use estimators::asking::Estimator;
@@ -11,7 +11,24 @@ use units::codes::{AerodromeCode, Designator, is_aerodrome_code, is_designator};
 use units::measures::{Kind, Measure};
 use units::refusals::{Refusal, hold};
 
-// The fuel of one flight in grams; a kind or an amount that could not be read is given as none.
+// The measure of one flight, when its type, kind and amount pass their checks; a kind or an amount that could not be read
+// is given as none. It asks no estimator, for callers whose estimator takes work to make.
+pub fn flight_measure(
+    designator: Designator,
+    kind: Option<Kind>,
+    amount: Option<u32>,
+) -> Result<Measure, Refusal>
+    ensures { result ≡ flight_asked designator kind amount }
+{
+    hold(is_designator(&designator.bytes), Refusal::OutOfRange(3))?;
+    let kind = kind.ok_or(Refusal::OutOfRange(6))?;
+    let amount = amount.ok_or(Refusal::OutOfRange(7))?;
+    let measure = Measure { kind, amount };
+    hold(measure.is_in_range(), Refusal::OutOfRange(7))?;
+    Ok(measure)
+}
+
+// The fuel of one flight in grams; what was given is looked at before the estimator is asked.
 pub fn flight_fuel<E: Estimator>(
     estimator: &E,
     designator: Designator,
@@ -21,11 +38,7 @@ pub fn flight_fuel<E: Estimator>(
     ensures is { result ≡ fuel_asked (E.Estimator.meaning estimator.now) designator kind amount }
     ensures limited { IfOk result (λ grams. grams ≤ fuel_limit) }
 {
-    hold(is_designator(&designator.bytes), Refusal::OutOfRange(3))?;
-    let kind = kind.ok_or(Refusal::OutOfRange(6))?;
-    let amount = amount.ok_or(Refusal::OutOfRange(7))?;
-    let measure = Measure { kind, amount };
-    hold(measure.is_in_range(), Refusal::OutOfRange(7))?;
+    let measure = flight_measure(designator, kind, amount)?;
     Ok(estimator.ask(designator, measure)?)
 }
 
