@@ -1,12 +1,12 @@
 // Custom types by the generic equation, over any estimator.
-ghost use Rattle.std.specs.Prelude.{◌≡◌, true};
+ghost use Rattle.std.specs.Prelude.{◌≡◌, true, []};
 ghost use Rattle.units.specs.declared.refusals.ListOwner.TheVariants.{OfEstimator};
 ghost use Rattle.estimators.specs.Answers.{known, within_limit};
 ghost use Rattle.lists.specs.Entries.{entries};
 ghost use Rattle.lists.specs.Listing.{after_adding};
 ghost use Rattle.layers.specs.Custom.{in_category, customs};
 ghost use Rattle.layers.specs.Equation.{category_of};
-ghost use Rattle.layers.specs.Items.{custom_name, custom_formed, custom_fits, equivalent_added};
+ghost use Rattle.layers.specs.Items.{custom_name, custom_formed, custom_fits, custom_added, equivalent_added};
 ghost use Rattle.layers.specs.LayerLaws.{customs_laws};
 
 use crate::category::{Category, by_category};
@@ -16,6 +16,7 @@ use crate::layer::Layer;
 use estimators::answers::{Answer, NoEstimate, is_known};
 use estimators::asking::Estimator;
 use lists::item::Item;
+use lists::short::ShortList;
 use units::codes::{Designator, is_designator};
 use units::measures::Measure;
 use units::refusals::{ListOwner, Refusal};
@@ -77,6 +78,28 @@ impl<E: Estimator> Estimator for Layer<E, CustomType> {
             .find(designator.bytes)
             .ok_or(NoEstimate::NotKnown)?;
         item.estimate(measure)
+    }
+}
+
+impl<E> CustomTypes<E> {
+    // No custom types yet, over an estimator.
+    pub fn new(below: E) -> CustomTypes<E>
+        ensures estimator { result.below ≡ below }
+        ensures list { entries result.list ≡ [] }
+    {
+        Layer {
+            below,
+            list: ShortList::new(CustomType::default()),
+        }
+    }
+
+    // Lists a type; refused, the list stays as it is.
+    pub fn add(&mut self, item: CustomType) -> Result<(), Refusal>
+        ensures answer { result ≡ custom_added (entries self.old.list) item }
+        ensures after { entries self.new.list ≡ after_adding result (entries self.old.list) item }
+        ensures same { self.new.below ≡ self.old.below }
+    {
+        self.list.add(item)
     }
 }
 

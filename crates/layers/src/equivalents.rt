@@ -1,9 +1,10 @@
 // Types that take the answer of another type, over any estimator.
-ghost use Rattle.std.specs.Prelude.{◌≡◌, true};
+ghost use Rattle.std.specs.Prelude.{◌≡◌, true, []};
 ghost use Rattle.units.specs.declared.refusals.ListOwner.TheVariants.{OfEstimator};
 ghost use Rattle.estimators.specs.Answers.{known, within_limit};
 ghost use Rattle.lists.specs.Entries.{entries};
-ghost use Rattle.layers.specs.Items.{equivalent_name, equivalent_formed, equivalent_fits, ratio_part};
+ghost use Rattle.lists.specs.Listing.{after_adding};
+ghost use Rattle.layers.specs.Items.{equivalent_name, equivalent_formed, equivalent_fits, equivalent_added, ratio_part};
 ghost use Rattle.layers.specs.Equivalence.{scaled as times, equivalents};
 ghost use Rattle.layers.specs.LayerLaws.{equivalents_laws};
 
@@ -12,10 +13,11 @@ use crate::layer::{Layer, capped};
 use estimators::answers::{Answer, NoEstimate, is_known};
 use estimators::asking::Estimator;
 use lists::item::Item;
+use lists::short::ShortList;
 use units::amounts::nearest;
 use units::codes::{Designator, is_designator};
 use units::measures::Measure;
-use units::refusals::ListOwner;
+use units::refusals::{ListOwner, Refusal};
 
 // Equivalents over an estimator.
 pub type Equivalents<E> = Layer<E, Equivalent>;
@@ -81,5 +83,27 @@ impl<E: Estimator> Estimator for Layer<E, Equivalent> {
             .find(designator.bytes)
             .ok_or(NoEstimate::NotKnown)?;
         item.scaled(self.below.ask(item.named, measure))
+    }
+}
+
+impl<E> Equivalents<E> {
+    // No equivalents yet, over an estimator.
+    pub fn new(below: E) -> Equivalents<E>
+        ensures estimator { result.below ≡ below }
+        ensures list { entries result.list ≡ [] }
+    {
+        Layer {
+            below,
+            list: ShortList::new(Equivalent::default()),
+        }
+    }
+
+    // Lists a type; refused, the list stays as it is.
+    pub fn add(&mut self, item: Equivalent) -> Result<(), Refusal>
+        ensures answer { result ≡ equivalent_added (entries self.old.list) item }
+        ensures after { entries self.new.list ≡ after_adding result (entries self.old.list) item }
+        ensures same { self.new.below ≡ self.old.below }
+    {
+        self.list.add(item)
     }
 }
