@@ -5,7 +5,7 @@ use Rattle.std.specs.Simd.{first_chunks}
 use Rattle.book.specs.Bytes.{u16_at, items, items_of, front}
 
 -- an item below the count lies within the bytes
-item_within : (w k : ℕ) (bs : List ℕ) (i : ℕ) → k ≤ w → i < items w bs → w * i + k ≤ length bs
+pub item_within : (w k : ℕ) (bs : List ℕ) (i : ℕ) → k ≤ w → i < items w bs → w * i + k ≤ length bs
 item_within w k bs i le lt =
     let all = div-mul-le_self (length bs) w in
     let some : i + 1 ≤ items w bs = omega arith in

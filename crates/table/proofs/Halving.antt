@@ -77,3 +77,7 @@ located_searched digits blank xs n k m long r is =
     is ∙ ap (λ l. halved (order_at digits blank (take m xs) k) l 0 l) long
     ∙ halved_alike (order_at digits blank (take m xs) k) (order_at digits blank xs k) (min n (length xs)) 0 (min n (length xs))
     (λ i lt. ap (λ x. compared (digits x) k) (get_or-take m xs i blank (omega arith)))
+
+-- how a record that was read compares
+pub order_read : {R : Type 0} (digits : R → List ℕ) (blank : R) (xs : List R) (k : List ℕ) (i : ℕ) (x : R) → i < length xs → x ≡ get_or xs i x → (o : Ordering) → o ≡ compared (digits x) k → order_at digits blank xs k i ≡ o
+order_read digits blank xs k i x lt is o e = ap (λ y. compared (digits y) k) (sym (get_or_read xs i x lt is blank)) ∙ sym e

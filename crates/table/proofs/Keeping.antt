@@ -21,6 +21,10 @@ module _ {R : Type 0} (digits : R → List ℕ) (blank : R) where
       let all : m ≡ length xs - 0 = omega arith in
       record { within = omega arith; rising = λ i j lt within. absurd (omega arith); rest = is ∙ ap (λ k. replicate k blank) all }
 
+  -- the same slice, told otherwise
+  pub in_order_at : (ys zs : List R) (n : ℕ) (rs : List R) → ys ≡ zs → InOrder digits blank zs n rs → InOrder digits blank ys n rs
+  in_order_at ys zs n rs e h = subst (λ l. InOrder digits blank l n rs) (sym e) h
+
   pub inserted_rises : (rs : List R) (p : ℕ) (r : R) → Rising digits blank rs → Between digits blank rs (digits r) p → Rising digits blank (insert rs p r)
   inserted_rises rs p r rising between i j lt within =
       let bound = between.within in
