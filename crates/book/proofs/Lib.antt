@@ -1,4 +1,5 @@
 pub mod Fronts
+pub mod Halving
 pub mod Keyed
 pub mod Passing
 pub mod Promised

@@ -13,7 +13,7 @@ use Rattle.std.specs.declared.cmp.Ordering.TheVariants.{Less, Greater}
 use Rattle.units.specs.Order.{earlier, same}
 use Rattle.units.proofs.Ordered.{earlier_trans, earlier_not_same, same_not_earlier, same_equal, equal_same}
 use Rattle.units.proofs.Searched.{none_first, some_first}
-use Rattle.book.specs.Bytes.{items, items_of, front, find, Rising}
+use Rattle.book.specs.Bytes.{items, items_of, front, find, Rising, against}
 use Rattle.book.specs.Items.{out_of_order}
 use Rattle.book.proofs.Fronts.{length_items, item_at, item_front}
 
@@ -53,10 +53,6 @@ bad_later wrong w k bs i wide lt later xs is right r le =
 not_back : (xs ys : List ℕ) → earlier xs ys ≡ true → earlier ys xs ≡ false
 not_back xs ys up =
     false_from_ne_true _ (λ back. both_ways _ (same_not_earlier xs xs (equal_same xs)) (earlier_trans xs ys xs up back))
-
--- an item's first bytes against a key
-abbrev pub against : List ℕ → List ℕ → Ordering
-against key item = slice_cmp nat_cmp (take (length key) item) key
 
 -- what a search by the first bytes answers, where these rise
 module _ (w : ℕ) (key bs : List ℕ) (wide : length key ≤ w) (rising : Rising w (length key) bs) where

@@ -1,6 +1,9 @@
 -- Numbers and items in a run of bytes. Assumes nothing.
 use Rattle.std.specs.Prelude.{◌≡◌, ℕ, ◌+◌, ◌*◌, ◌/◌, ◌<◌, true, List, length, take, drop, Option, slice_index}
 use Rattle.std.specs.Simd.{first_chunks}
+use Rattle.std.specs.Cmp.Lexicographic.{slice_cmp}
+use Rattle.std.specs.Ordering.{nat_cmp}
+use Rattle.std.specs.declared.cmp.Ordering.{Ordering}
 use Rattle.units.specs.Order.{earlier, same}
 use Rattle.units.specs.Places.{first}
 
@@ -30,3 +33,7 @@ find w key bs = first (λ i. same (front w (length key) bs i) key) (items w bs)
 -- each item stands before every later one, by its first k bytes
 abbrev pub Rising : ℕ → ℕ → List ℕ → Type 0
 Rising w k bs = (i j : ℕ) → i < j → j < items w bs → earlier (front w k bs i) (front w k bs j) ≡ true
+
+-- an item's first bytes against a key
+abbrev pub against : List ℕ → List ℕ → Ordering
+against key item = slice_cmp nat_cmp (take (length key) item) key

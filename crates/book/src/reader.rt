@@ -7,7 +7,7 @@ ghost use Rattle.book.specs.Parts.{sections};
 ghost use Rattle.book.specs.Promise.{Promises};
 ghost use Rattle.book.specs.Reading.{contents};
 
-use crate::bytes::items as items_in;
+use crate::bytes::{items as items_in, search};
 use crate::checked::Book;
 use crate::checks::{check_book, column_at, fuel_at};
 use crate::format::{Aerodrome, Parts, Row, Tier, cut};
@@ -133,9 +133,7 @@ impl<'a> Book<'a> {
     {
         let [a, b, c, d] = designator.bytes;
         let key = [a, b, c, d, u8::from(kind)];
-        self.rows()
-            .binary_search_by(|row| row[..5].cmp(&key[..]))
-            .ok()
+        search(self.rows(), &key).ok()
     }
 
     // Aerodrome `i`; none past the last.
@@ -150,9 +148,8 @@ impl<'a> Book<'a> {
     pub fn find_aerodrome(&self, code: AerodromeCode) -> Option<usize>
         ensures { result ≡ aerodrome_place (contents self.now) code }
     {
-        self.aerodromes()
-            .binary_search_by(|aerodrome| aerodrome[..4].cmp(&code.bytes[..]))
-            .ok()
+        let [a, b, c, d] = code.bytes;
+        search(self.aerodromes(), &[a, b, c, d]).ok()
     }
 
     // Whether a State takes part in offsetting; States past the marks take no part.
