@@ -36,11 +36,12 @@ module _ {X : Type 0} (ord : X → Ordering) (xs : List X) where
       there : (d : X) → ord (get_or xs at d) ≡ o
       there d = sym (is ∙ ap ord (get_or_read xs at x (omega (arith, left.within)) read d))
 
-      pub halved_up : o ≡ Less → Halved (at + 1) high
-      halved_up less = record {
-        order = omega arith;
+      -- by an equation, so that any way to write the next place may stand in the code
+      pub halved_up : (next : ℕ) → next ≡ at + 1 → o ≡ Less → Halved next high
+      halved_up next e less = record {
+        order = omega (arith, e);
         within = left.within;
-        below = λ rises j d lt. least _ (omega (arith, rises j at d (omega arith) (omega (arith, left.within)), ap ordering_index (there d ∙ less)));
+        below = λ rises j d lt. least _ (omega (arith, rises j at d (omega (arith, e)) (omega (arith, left.within)), ap ordering_index (there d ∙ less)));
         above = left.above;
       }
 

@@ -16,7 +16,7 @@ pub loop-low-preserved-in-Less : goal.loop-low-preserved-in-Less
 loop-low-preserved-in-Less g c =
     let is : Less ≡ against c.args.key.now c.index-items-middle.result = search rules in
     halved_up (against c.args.key.now) c.args.items.now c.loop-low.low c.loop-low.high c.loop-low.invariant
-    (c.loop-low.low + (c.loop-low.high - c.loop-low.low) / 2) (omega arith) (omega arith) c.index-items-middle.result c.index-items-middle.is Less is refl
+    (c.loop-low.low + (c.loop-low.high - c.loop-low.low) / 2) (omega arith) (omega arith) c.index-items-middle.result c.index-items-middle.is Less is _ (omega arith) refl
 
 pub returns-in-Equal-clause-bound : goal.returns-in-Equal-clause-bound
 returns-in-Equal-clause-bound g c = omega (arith, c.loop-low.invariant.within)
