@@ -1,5 +1,5 @@
 -- A search in a run of items that rise by their first bytes. Assumes nothing.
-use Rattle.std.proofs.Common.{◌≡◌, ℕ, ◌+◌, ◌-◌, ◌<◌, ◌≤◌, Bool, true, false, not, ◌&&◌, ◌||◌, ltb, List, [], length, get_or, take, Some, Ok, Err, Result, sym, refl, ap, ◌∙◌, subst, ⊎_elim, arith}
+use Rattle.std.proofs.Common.{◌≡◌, ℕ, ◌+◌, ◌-◌, ◌<◌, ◌≤◌, Bool, true, false, not, ◌&&◌, ◌||◌, ltb, List, [], ◌∷◌, length, get_or, take, Option, Some, Ok, Err, Result, sym, refl, ap, ◌∙◌, subst, ⊎_elim, arith}
 use Rattle.std.proofs.lemmas.Bool.{false_from_ne_true, both_ways, cases_lt, lt-ltb}
 use Rattle.std.proofs.lemmas.Bool.Decides.{nat_tests}
 use Rattle.std.proofs.lemmas.Cmp.{same_from_slice_cmp, same_from_slice_cmp_tested, nat_list_cmp_total}
@@ -90,3 +90,7 @@ module _ (w : ℕ) (key bs : List ℕ) (wide : length key ≤ w) (rising : Risin
   pub searched : (xs : List (List ℕ)) → xs ≡ items_of w bs → (r : Result ℕ ℕ) → IsSearchInRange r (length xs) → IsBinarySearchResult (against key) xs r → result_ok r ≡ find w key bs
   searched xs is r within place =
       found r (subst (λ l. IsSearchInRange r (length l)) is within) (subst (λ l. IsBinarySearchResult (against key) l r) is place)
+
+-- the four bytes of a key and the rest, each by an equation, so that any way to write them may stand in the code
+pub sought_as : (w : ℕ) (bs : List ℕ) {o : Option ℕ} {a b c d a' b' c' d' : ℕ} {l l' : List ℕ} → o ≡ find w (a ∷ b ∷ c ∷ d ∷ l) bs → a ≡ a' → b ≡ b' → c ≡ c' → d ≡ d' → l ≡ l' → o ≡ find w (a' ∷ b' ∷ c' ∷ d' ∷ l') bs
+sought_as w bs is a b c d l = is ∙ (λ n. find w (a n ∷ b n ∷ c n ∷ d n ∷ l n) bs)

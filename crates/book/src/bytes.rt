@@ -1,7 +1,8 @@
 // Numbers and items in a run of bytes.
-ghost use Rattle.std.specs.Prelude.{◌≡◌, ◌+◌, ◌*◌, ◌<◌, ◌≤◌, length};
+ghost use Rattle.std.specs.Prelude.{◌≡◌, ℕ, ◌+◌, ◌*◌, ◌<◌, ◌≤◌, List, length};
 ghost use Rattle.std.specs.List.Sorted.{IsBinarySearchResult, IsSearchInRange};
-ghost use Rattle.book.specs.Bytes.{u16_at, u32_at, items, items_of, against};
+ghost use Rattle.std.specs.Result.{result_ok};
+ghost use Rattle.book.specs.Bytes.{u16_at, u32_at, items, items_of, find, Rising, against};
 
 use std::cmp::Ordering;
 
@@ -38,6 +39,7 @@ pub(crate) fn search<const N: usize, const K: usize>(
     requires { K ≤ N }
     ensures bound { IsSearchInRange result (length items.now) }
     ensures position { IsBinarySearchResult (against key.now) items.now result }
+    ensures place { (bs : List ℕ) → items.now ≡ items_of N bs → Rising N K bs → result_ok result ≡ find N key.now bs }
 {
     let (mut low, mut high) = (0, items.len());
     while low < high {

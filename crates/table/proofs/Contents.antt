@@ -12,6 +12,10 @@ module _ {R : Type 0} (xs : List R) (n p : ℕ) where
     pub moved_up : (ys : List R) → ys ≡ copy_within xs p n (p + 1) → set ys p r ≡ put_in xs n p r
     moved_up ys is = ap (λ l. set l p r) is ∙ same_lists _ _ (search (rules, places)) (λ k d h. grind (arith, places, get_or-set_same, cases_eq k p))
 
+    -- the same by an equation for the place, so that any way to write it may stand in the code
+    pub moved_up_to : (ys : List R) (next : ℕ) → ys ≡ copy_within xs p n next → next ≡ p + 1 → set ys p r ≡ put_in xs n p r
+    moved_up_to ys next is e = moved_up ys (is ∙ ap (copy_within xs p n) e)
+
     -- the records: those before p, the new one, those from p on
     pub put_in_records : take (n + 1) (put_in xs n p r) ≡ take p xs ++ r ∷ drop p (take n xs)
     put_in_records = same_lists _ _ (search (rules, places)) (λ k d h. grind (arith, places))
@@ -31,6 +35,9 @@ module _ {R : Type 0} (xs : List R) (n p : ℕ) where
     moved_down ys end r last of is =
         (λ i. set (is i) (last i - 1) (of i))
         ∙ same_lists _ _ (search (rules, places)) (λ k d h. grind (arith, places, get_or-set_same, cases_eq k (n - 1)))
+
+    pub moved_down_at : (ys : List R) (end at : ℕ) (r : R) → end ≡ n → r ≡ blank → ys ≡ copy_within xs (p + 1) end p → at ≡ end - 1 → set ys at r ≡ taken_out blank xs n p
+    moved_down_at ys end at r last of is e = ap (λ k. set ys k r) e ∙ moved_down ys end r last of is
 
     -- the records: those before p, those after it
     pub taken_out_records : take (n - 1) (taken_out blank xs n p) ≡ take p xs ++ drop (suc p) (take n xs)

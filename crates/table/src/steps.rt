@@ -93,11 +93,18 @@ pub fn remove<R: Record>(slots: &mut [R], count: usize, place: usize) -> bool
     held
 }
 
+// Writes a record at every place.
+fn fill<R: Record>(slots: &mut [R], row: R)
+    ensures after { slots.new ≡ replicate (length slots.old) row }
+    ensures ordered { (x : R) → row ≡ x → Ordered (λ x. R.Key.Key.digits (R.keyed x)) x slots.new 0 }
+{
+    slots.fill_with(|| row);
+}
+
 // Blanks every place.
 pub fn clear<R: Record>(slots: &mut [R])
     ensures after { slots.new ≡ replicate (length slots.old) R.unused }
     ensures ordered { Ordered (λ x. R.Key.Key.digits (R.keyed x)) R.unused slots.new 0 }
 {
-    let row = R::blank();
-    slots.fill_with(|| row);
+    fill(slots, R::blank());
 }

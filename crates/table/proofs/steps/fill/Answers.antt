@@ -1,7 +1,7 @@
 use Rattle.std.proofs.Common.{◌≡◌, List, [], ◌∷◌, length, replicate, refl, ap, ◌∙◌, subst, rules}
 use Rattle.std.specs.List.{FoldsTo}
 use Rattle.table.proofs.Keeping.{blank_ordered}
-use Rattle.table.proofs.steps.clear.Goals as goal
+use Rattle.table.proofs.steps.fill.Goals as goal
 
 -- what a closure that always gives x leaves
 filled : {F X : Type 0} (step : F → X → F → Type 0) (f : F) (x : X) → ((y : X) (h : F) → step f y h → (y ≡ x) × (h ≡ f)) → (ys : List X) (g : F) → FoldsTo step f ys g → ys ≡ replicate (length ys) x
@@ -13,6 +13,6 @@ filled step f x gives (y ∷ ys) g (h, gave, rest) =
 
 pub returns : goal.returns
 returns g c =
-    let after : c.fill_with.new.self ≡ replicate (length c.args.slots.now) g.R.Record.unused =
-    filled _ _ g.R.Record.unused (λ y h gave. search rules) _ _ c.fill_with.ensures.ran.1 ∙ ap (λ n. replicate n g.R.Record.unused) c.fill_with.ensures.len in
-    record { after = after; ordered = blank_ordered (λ y. g.R.Key.Key.digits (g.R.Record.keyed y)) g.R.Record.unused _ _ after }
+    let after : c.fill_with.new.self ≡ replicate (length c.args.slots.now) c.args.row =
+    filled _ _ c.args.row (λ y h gave. search rules) _ _ c.fill_with.ensures.ran.1 ∙ ap (λ n. replicate n c.args.row) c.fill_with.ensures.len in
+    record { after = after; ordered = λ x is. blank_ordered (λ y. g.R.Key.Key.digits (g.R.Record.keyed y)) x _ _ (after ∙ ap (replicate (length c.args.slots.now)) is) }
