@@ -32,21 +32,21 @@ fn custom(name: &[u8; 4], category: u32, mass: u32) -> CustomType {
 
 #[test]
 fn equivalents_scale_the_named_type(rt: HostRuntime) {
-    let mut layer = Equivalents::new(Book::of(&EXAMPLE));
+    let mut layer = Equivalents::over(Book::of(&EXAMPLE));
     assert_eq!(rt;
-        number(layer.add(equivalent(b"AT3 ", b"GL7T", 1, 3))),
+        number(layer.add_type(equivalent(b"AT3 ", b"GL7T", 1, 3))),
         Ok(())
     );
     assert_eq!(rt;
-        number(layer.add(equivalent(b"BIG ", b"GL7T", 10_000, 1))),
+        number(layer.add_type(equivalent(b"BIG ", b"GL7T", 10_000, 1))),
         Ok(())
     );
     assert_eq!(rt;
-        number(layer.add(equivalent(b"AB  ", b"AT3 ", 1, 1))),
+        number(layer.add_type(equivalent(b"AB  ", b"AT3 ", 1, 1))),
         Ok(())
     );
     assert_eq!(rt;
-        number(layer.add(equivalent(b"GL7T", b"AT3 ", 2, 1))),
+        number(layer.add_type(equivalent(b"GL7T", b"AT3 ", 2, 1))),
         Ok(())
     );
     assert_eq!(rt; asked(&layer, b"AT3 ", Kind::Distance, 750), Ok(667_333));
@@ -60,41 +60,44 @@ fn equivalents_scale_the_named_type(rt: HostRuntime) {
 
 #[test]
 fn equivalents_are_checked_in_order(rt: HostRuntime) {
-    let mut layer = Equivalents::new(Book::of(&EXAMPLE));
+    let mut layer = Equivalents::over(Book::of(&EXAMPLE));
     assert_eq!(rt;
-        number(layer.add(equivalent(b"at3 ", b"GL7T", 0, 0))),
+        number(layer.add_type(equivalent(b"at3 ", b"GL7T", 0, 0))),
         Err(9)
     );
     assert_eq!(rt;
-        number(layer.add(equivalent(b"AT3 ", b"gl7t", 0, 0))),
+        number(layer.add_type(equivalent(b"AT3 ", b"gl7t", 0, 0))),
         Err(9)
     );
     assert_eq!(rt;
-        number(layer.add(equivalent(b"AT3 ", b"GL7T", 0, 1))),
+        number(layer.add_type(equivalent(b"AT3 ", b"GL7T", 0, 1))),
         Err(11)
     );
     assert_eq!(rt;
-        number(layer.add(equivalent(b"AT3 ", b"GL7T", 1, 10_001))),
+        number(layer.add_type(equivalent(b"AT3 ", b"GL7T", 1, 10_001))),
         Err(11)
     );
     assert_eq!(rt;
-        number(layer.add(equivalent(b"AT3 ", b"GL7T", 10_000, 1))),
+        number(layer.add_type(equivalent(b"AT3 ", b"GL7T", 10_000, 1))),
         Ok(())
     );
     assert_eq!(rt;
-        number(layer.add(equivalent(b"AT3 ", b"GL7T", 0, 0))),
+        number(layer.add_type(equivalent(b"AT3 ", b"GL7T", 0, 0))),
         Err(10)
     );
     for i in 0..63u8 {
         let name = [b'B', b'A' + i / 10, b'0' + i % 10, b' '];
-        assert_eq!(rt; number(layer.add(equivalent(&name, b"GL7T", 1, 1))), Ok(()));
+        assert_eq!(rt;
+            number(layer.add_type(equivalent(&name, b"GL7T", 1, 1))),
+            Ok(())
+        );
     }
     assert_eq!(rt;
-        number(layer.add(equivalent(b"ZZZZ", b"GL7T", 1, 1))),
+        number(layer.add_type(equivalent(b"ZZZZ", b"GL7T", 1, 1))),
         Err(8)
     );
     assert_eq!(rt;
-        number(layer.add(equivalent(b"at3 ", b"GL7T", 0, 0))),
+        number(layer.add_type(equivalent(b"at3 ", b"GL7T", 0, 0))),
         Err(8)
     );
 }
@@ -124,9 +127,9 @@ const MASSES: [(u32, u32, Result<(), u32>); 18] = [
 #[test]
 fn masses_belong_to_their_category(rt: HostRuntime) {
     for (category, mass, expected) in MASSES {
-        let mut layer = CustomTypes::new(Book::of(&EXAMPLE));
+        let mut layer = CustomTypes::over(Book::of(&EXAMPLE));
         assert_eq!(rt;
-            number(layer.add(custom(b"C1  ", category, mass))),
+            number(layer.add_type(custom(b"C1  ", category, mass))),
             expected
         );
     }
@@ -150,17 +153,20 @@ const EQUATION: [(u32, u32, Kind, u32, Result<u64, u32>); 11] = [
 #[test]
 fn the_equation_is_exact(rt: HostRuntime) {
     for (category, mass, kind, amount, expected) in EQUATION {
-        let mut layer = CustomTypes::new(Book::of(&EXAMPLE));
-        assert_eq!(rt; number(layer.add(custom(b"C1  ", category, mass))), Ok(()));
+        let mut layer = CustomTypes::over(Book::of(&EXAMPLE));
+        assert_eq!(rt;
+            number(layer.add_type(custom(b"C1  ", category, mass))),
+            Ok(())
+        );
         assert_eq!(rt; asked(&layer, b"C1  ", kind, amount), expected);
     }
 }
 
 #[test]
 fn the_last_answered_amounts(rt: HostRuntime) {
-    let mut layer = CustomTypes::new(Book::of(&EXAMPLE));
-    assert_eq!(rt; number(layer.add(custom(b"C1  ", 1, 640_000))), Ok(()));
-    assert_eq!(rt; number(layer.add(custom(b"C4  ", 4, 640_000))), Ok(()));
+    let mut layer = CustomTypes::over(Book::of(&EXAMPLE));
+    assert_eq!(rt; number(layer.add_type(custom(b"C1  ", 1, 640_000))), Ok(()));
+    assert_eq!(rt; number(layer.add_type(custom(b"C4  ", 4, 640_000))), Ok(()));
     assert!(rt; asked(&layer, b"C1  ", Kind::Time, 1_459).is_ok());
     assert!(rt; asked(&layer, b"C4  ", Kind::Distance, 12_591).is_ok());
     assert!(rt; asked(&layer, b"C4  ", Kind::Time, 1_405).is_ok());
@@ -168,8 +174,8 @@ fn the_last_answered_amounts(rt: HostRuntime) {
 
 #[test]
 fn the_book_comes_before_the_equation(rt: HostRuntime) {
-    let mut layer = CustomTypes::new(Equivalents::new(Book::of(&EXAMPLE)));
-    assert_eq!(rt; number(layer.add(custom(b"GL7T", 4, 20_000))), Ok(()));
+    let mut layer = CustomTypes::over(Equivalents::over(Book::of(&EXAMPLE)));
+    assert_eq!(rt; number(layer.add_type(custom(b"GL7T", 4, 20_000))), Ok(()));
     assert_eq!(rt; asked(&layer, b"GL7T", Kind::Distance, 750), Ok(2_002_000));
     assert_eq!(rt; asked(&layer, b"GL7T", Kind::Distance, 10_001), Err(23));
     assert!(rt; asked(&layer, b"GL7T", Kind::Time, 60).is_ok());

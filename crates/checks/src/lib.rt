@@ -2,6 +2,8 @@
 #![tactic(auto)]
 
 #[cfg(test)]
+mod any_item;
+#[cfg(test)]
 mod books;
 #[cfg(test)]
 mod directories;

@@ -169,9 +169,9 @@ fn refusals_without_an_estimate(rt: HostRuntime) {
 #[test]
 fn far_from_an_estimate_of_nothing(rt: HostRuntime) -> Result<(), Fail> {
     let book = Book::of(&EXAMPLE);
-    let mut estimator = CustomTypes::new(book);
+    let mut estimator = CustomTypes::over(book);
     let designator = Designator { bytes: *b"HEVY" };
-    let listed = estimator.add(CustomType {
+    let listed = estimator.add_type(CustomType {
         designator,
         category: 1,
         mass: 640_000,

@@ -48,7 +48,7 @@ impl<'a> Desk<'a> {
     // Empty lists over the book's rows and aerodromes.
     pub(crate) fn new(book: Book<'a>) -> Desk<'a> {
         Desk {
-            estimator: CustomTypes::new(Equivalents::new(book)),
+            estimator: CustomTypes::over(Equivalents::over(book)),
             aerodromes: CustomAerodromes::new(book),
             prefixes: Prefixes::new(),
         }
@@ -71,7 +71,7 @@ impl<'a> Desk<'a> {
                 p: value(p),
                 q: value(q),
             }),
-            [b"CUS", name, category, mass] => self.estimator.add(CustomType {
+            [b"CUS", name, category, mass] => self.estimator.add_type(CustomType {
                 designator: value(name),
                 category: value(category),
                 mass: value(mass),

@@ -83,7 +83,7 @@ impl<E: Estimator> Estimator for Layer<E, CustomType> {
 
 impl<E> CustomTypes<E> {
     // No custom types yet, over an estimator.
-    pub fn new(below: E) -> CustomTypes<E>
+    pub fn over(below: E) -> CustomTypes<E>
         ensures estimator { result.below ≡ below }
         ensures list { entries result.list ≡ [] }
     {
@@ -94,7 +94,7 @@ impl<E> CustomTypes<E> {
     }
 
     // Lists a type; refused, the list stays as it is.
-    pub fn add(&mut self, item: CustomType) -> Result<(), Refusal>
+    pub fn add_type(&mut self, item: CustomType) -> Result<(), Refusal>
         ensures answer { result ≡ custom_added (entries self.old.list) item }
         ensures after { entries self.new.list ≡ after_adding result (entries self.old.list) item }
         ensures same { self.new.below ≡ self.old.below }
@@ -110,6 +110,6 @@ impl<E> CustomTypes<Equivalents<E>> {
         ensures after { entries self.new.below.list ≡ after_adding result (entries self.old.below.list) item }
         ensures same { (self.new.below.below ≡ self.old.below.below) × (self.new.list ≡ self.old.list) }
     {
-        self.below.add(item)
+        self.below.add_type(item)
     }
 }

@@ -88,7 +88,7 @@ impl<E: Estimator> Estimator for Layer<E, Equivalent> {
 
 impl<E> Equivalents<E> {
     // No equivalents yet, over an estimator.
-    pub fn new(below: E) -> Equivalents<E>
+    pub fn over(below: E) -> Equivalents<E>
         ensures estimator { result.below ≡ below }
         ensures list { entries result.list ≡ [] }
     {
@@ -99,7 +99,7 @@ impl<E> Equivalents<E> {
     }
 
     // Lists a type; refused, the list stays as it is.
-    pub fn add(&mut self, item: Equivalent) -> Result<(), Refusal>
+    pub fn add_type(&mut self, item: Equivalent) -> Result<(), Refusal>
         ensures answer { result ≡ equivalent_added (entries self.old.list) item }
         ensures after { entries self.new.list ≡ after_adding result (entries self.old.list) item }
         ensures same { self.new.below ≡ self.old.below }
