@@ -3,6 +3,7 @@ ghost use Rattle.std.specs.Prelude.{◌≡◌};
 ghost use Rattle.units.specs.Alphabet.{designator};
 ghost use Rattle.units.specs.declared.refusals.ListOwner.TheVariants.{OfDirectory};
 
+use crate::directories::named;
 use crate::example::{EXAMPLE, asked};
 use book::checked::Book;
 use layers::customs::CustomTypes;
@@ -12,15 +13,7 @@ use layers::layer::Layer;
 use lists::item::Item;
 use units::codes::{Designator, is_designator};
 use units::measures::Kind;
-use units::refusals::{Fault, ListOwner, Refusal};
-
-// What was answered; a refusal by its letter and number.
-fn named(answer: Result<(), Refusal>) -> Result<(), (char, u32)> {
-    answer.map_err(|refusal| {
-        let fault = Fault::from(refusal);
-        (char::from(fault.layer), fault.number)
-    })
-}
+use units::refusals::ListOwner;
 
 // A type that is in range or not, in a directory's list.
 #[derive(Clone, Copy, Default)]

@@ -14,7 +14,7 @@ fn state<D: Directory>(directory: &D, code: &[u8; 4]) -> Option<u16> {
 }
 
 // What was answered; a refusal by its letter and number.
-fn named(answer: Result<(), Refusal>) -> Result<(), (char, u32)> {
+pub(crate) fn named(answer: Result<(), Refusal>) -> Result<(), (char, u32)> {
     answer.map_err(|refusal| {
         let fault = Fault::from(refusal);
         (char::from(fault.layer), fault.number)
